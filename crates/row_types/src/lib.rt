@@ -1,13 +1,20 @@
-// A library with one function.
+//! Values, keys, rows, edges, spans and schemas, with the orders of keys and edges.
 #![tactic(auto)]
 
-ghost use Rattle.std.specs.Prelude.{◌≡◌};
-ghost use Rattle.row_types.specs.Echo.{echo_of};
+pub mod byte_list;
+pub mod digests;
+pub mod edges;
+pub mod keys;
+pub mod memory;
+pub mod table_rows;
+pub mod table_schema;
+pub mod values;
 
-// The `ensures` clause is the contract: what `echo` returns is `echo_of` of its argument, a definition
-// in `specs/Echo.antt`, which a caller's clause can cite too.
-pub fn echo(x: usize) -> usize
-    ensures { result ≡ echo_of x }
-{
-    x
-}
+pub use byte_list::Bytes;
+pub use digests::{Digest, DigestKind};
+pub use edges::{Edge, Span};
+pub use keys::Key;
+pub use memory::{Memory, R};
+pub use table_rows::{Row, Rows, Tables};
+pub use table_schema::{Column, ColumnKind, Columns, Schema, SchemaList, Schemas};
+pub use values::Value;

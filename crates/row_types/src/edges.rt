@@ -1,0 +1,140 @@
+ghost use Rattle.std.specs.Prelude.{◌≡◌, ◌≤◌, ◌↔◌, IsTrue, IfOk, length, take};
+ghost use Rattle.row_types.specs.Order.{edge_cmp, edge_le, has};
+
+use crate::keys::{Key, compare_values};
+use crate::memory::R;
+use crate::table_rows::Row;
+use crate::values::Value;
+use std::alloc::Global;
+use std::cmp::Ordering;
+
+/// A place between keys: below all keys, just before or just after a key, above all keys.
+#[derive(Debug, Drop)]
+pub enum Edge {
+    Low,
+    Before(Key),
+    After(Key),
+    High,
+}
+
+/// The keys from one edge to another.
+#[derive(Debug, Drop)]
+pub struct Span {
+    pub lo: Edge,
+    pub hi: Edge,
+}
+
+impl Edge {
+    pub fn copy(&self, alloc: Global) -> R<Edge>
+        ensures { IfOk result (λ copy. copy ≡ self.now) }
+    {
+        match self {
+            Edge::Low => Ok(Edge::Low),
+            Edge::Before(key) => Ok(Edge::Before(key.copy(alloc)?)),
+            Edge::After(key) => Ok(Edge::After(key.copy(alloc)?)),
+            Edge::High => Ok(Edge::High),
+        }
+    }
+
+    pub fn same(&self, other: &Edge) -> bool
+        ensures { IsTrue result ↔ (self.now ≡ other.now) }
+    {
+        match (self, other) {
+            (Edge::Low, Edge::Low) | (Edge::High, Edge::High) => true,
+            (Edge::Before(ours), Edge::Before(theirs)) => ours.same(theirs),
+            (Edge::After(ours), Edge::After(theirs)) => ours.same(theirs),
+            _ => false,
+        }
+    }
+
+    /// The order of edges: Low, then for rising keys Before and After, then High.
+    pub fn compare(&self, other: &Edge) -> Ordering
+        ensures { result ≡ edge_cmp self.now other.now }
+    {
+        match (self, other) {
+            (Edge::Low, Edge::Low) | (Edge::High, Edge::High) => Ordering::Equal,
+            (Edge::Low, _) | (_, Edge::High) => Ordering::Less,
+            (_, Edge::Low) | (Edge::High, _) => Ordering::Greater,
+            (Edge::Before(ours), Edge::Before(theirs)) => ours.compare(theirs),
+            (Edge::After(ours), Edge::After(theirs)) => ours.compare(theirs),
+            (Edge::Before(ours), Edge::After(theirs)) => {
+                ours.compare(theirs).then(Ordering::Less)
+            }
+            (Edge::After(ours), Edge::Before(theirs)) => {
+                ours.compare(theirs).then(Ordering::Greater)
+            }
+        }
+    }
+
+    /// Whether the key of these values is past this edge.
+    fn is_before(&self, key: &[Value]) -> bool
+        ensures { result ≡ edge_le self.now (Edge.Before key.now) }
+    {
+        match self {
+            Edge::Low => true,
+            Edge::Before(ours) => compare_values(ours.as_slice(), key).is_le(),
+            Edge::After(ours) => compare_values(ours.as_slice(), key).is_lt(),
+            Edge::High => false,
+        }
+    }
+
+    /// Whether the key of these values is before this edge.
+    fn is_after(&self, key: &[Value]) -> bool
+        ensures { result ≡ edge_le (Edge.After key.now) self.now }
+    {
+        match self {
+            Edge::Low => false,
+            Edge::Before(ours) => compare_values(key, ours.as_slice()).is_lt(),
+            Edge::After(ours) => compare_values(key, ours.as_slice()).is_le(),
+            Edge::High => true,
+        }
+    }
+}
+
+impl Span {
+    /// All keys.
+    pub fn whole() -> Span
+        ensures { result ≡ record { lo = Edge.Low; hi = Edge.High } }
+    {
+        Span {
+            lo: Edge::Low,
+            hi: Edge::High,
+        }
+    }
+
+    pub fn copy(&self, alloc: Global) -> R<Span>
+        ensures { IfOk result (λ copy. copy ≡ self.now) }
+    {
+        Ok(Span {
+            lo: self.lo.copy(alloc)?,
+            hi: self.hi.copy(alloc)?,
+        })
+    }
+
+    pub fn same(&self, other: &Span) -> bool
+        ensures { IsTrue result ↔ (self.now ≡ other.now) }
+    {
+        self.lo.same(&other.lo) && self.hi.same(&other.hi)
+    }
+
+    /// Whether the key lies between the edges.
+    pub fn has(&self, key: &Key) -> bool
+        ensures { result ≡ has self.now key.now }
+    {
+        self.has_values(key.as_slice())
+    }
+
+    /// Whether the row's key, its first `key_len` values, lies between the edges.
+    pub fn has_row(&self, row: &Row, key_len: u8) -> bool
+        requires { key_len ≤ length row.now }
+        ensures { result ≡ has self.now (take key_len row.now) }
+    {
+        self.has_values(row.as_slice().split_at(key_len as usize).0)
+    }
+
+    fn has_values(&self, key: &[Value]) -> bool
+        ensures { result ≡ has self.now key.now }
+    {
+        self.lo.is_before(key) && self.hi.is_after(key)
+    }
+}
