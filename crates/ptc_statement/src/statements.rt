@@ -1,0 +1,191 @@
+ghost use Rattle.std.specs.Prelude.{◌≡◌, ◌<◌, ◌^◌, ◌↔◌, List, [], ◌∷◌, ◌++◌, ℕ, length, IsTrue, IfOk, OnOk, OnErr};
+
+use row_types::{Digest, DigestKind, R, Span};
+use std::alloc::Global;
+use std::marker::Model;
+
+/// A statement on the table of a number, counted from 0. Chunks are numbered from 1.
+///
+/// The three are the checksum tool's: pt-table-checksum's REPLACE .. SELECT of a chunk's count and
+/// digest, its UPDATE of the source's values, and its DELETE of a table's earlier checksums.
+#[derive(Debug, Drop)]
+pub enum Statement {
+    /// Each node sums its own rows of the span.
+    Check {
+        table: u32,
+        chunk: u32,
+        span: Span,
+        kind: DigestKind,
+    },
+    /// Gives each node the source's checksum of the chunk.
+    SetMaster {
+        table: u32,
+        chunk: u32,
+        kind: DigestKind,
+        master: Digest,
+    },
+    /// Forgets the table's check rows.
+    ClearChecks {
+        table: u32,
+    },
+}
+
+impl Statement {
+    pub fn copy(&self, alloc: Global) -> R<Statement>
+        ensures { IfOk result (λ copy. copy ≡ self.now) }
+    {
+        match self {
+            Statement::Check {
+                table,
+                chunk,
+                span,
+                kind,
+            } => Ok(Statement::Check {
+                table: *table,
+                chunk: *chunk,
+                span: span.copy(alloc)?,
+                kind: *kind,
+            }),
+            Statement::SetMaster {
+                table,
+                chunk,
+                kind,
+                master,
+            } => Ok(Statement::SetMaster {
+                table: *table,
+                chunk: *chunk,
+                kind: *kind,
+                master: *master,
+            }),
+            Statement::ClearChecks { table } => Ok(Statement::ClearChecks { table: *table }),
+        }
+    }
+
+    pub fn same(&self, other: &Statement) -> bool
+        ensures { IsTrue result ↔ (self.now ≡ other.now) }
+    {
+        match (self, other) {
+            (
+                Statement::Check {
+                    table,
+                    chunk,
+                    span,
+                    kind,
+                },
+                Statement::Check {
+                    table: other_table,
+                    chunk: other_chunk,
+                    span: other_span,
+                    kind: other_kind,
+                },
+            ) => {
+                table == other_table
+                    && chunk == other_chunk
+                    && span.same(other_span)
+                    && kind.same(other_kind)
+            }
+            (
+                Statement::SetMaster {
+                    table,
+                    chunk,
+                    kind,
+                    master,
+                },
+                Statement::SetMaster {
+                    table: other_table,
+                    chunk: other_chunk,
+                    kind: other_kind,
+                    master: other_master,
+                },
+            ) => {
+                table == other_table
+                    && chunk == other_chunk
+                    && kind.same(other_kind)
+                    && master.same(other_master)
+            }
+            (Statement::ClearChecks { table }, Statement::ClearChecks { table: other_table }) => {
+                table == other_table
+            }
+            _ => false,
+        }
+    }
+}
+
+/// Statements, in the order in which they act.
+#[derive(Debug, Drop)]
+pub struct Statements {
+    pub items: Vec<Statement>,
+}
+
+impl Model for Statements {
+    ghost use Rattle.std.specs.Prelude.{List, ℕ};
+    ghost use Rattle.ptc_statement.specs.declared.statements.Statement.{Statement};
+
+    ghost Value = { List Statement };
+
+    ghost view = { λ list. list.items.items };
+}
+
+impl Statements {
+    /// An empty list.
+    pub fn new(alloc: Global) -> Statements
+        ensures { result ≡ [] }
+    {
+        Statements {
+            items: Vec::new(alloc),
+        }
+    }
+
+    pub fn as_slice(&self) -> &[Statement]
+        ensures { result.now ≡ self.now }
+    {
+        self.items.as_slice()
+    }
+
+    pub fn len(&self) -> usize
+        ensures value { result ≡ length self.now }
+        ensures bound { result < 2 ^ 63 }
+    {
+        self.items.len()
+    }
+
+    pub fn is_empty(&self) -> bool
+        ensures { IsTrue result ↔ (self.now ≡ []) }
+    {
+        self.items.is_empty()
+    }
+
+    /// Puts an item at the end; a refusal leaves the list as it was.
+    pub fn push(&mut self, item: Statement) -> R<()>
+        ensures ok { OnOk result (self.new ≡ self.old ++ item ∷ []) }
+        ensures err { OnErr result (self.new ≡ self.old) }
+    {
+        self.items.push(item)?;
+        Ok(())
+    }
+
+    pub fn copy(&self, alloc: Global) -> R<Statements>
+        ensures { IfOk result (λ copy. copy ≡ self.now) }
+    {
+        let mut items = Vec::new(alloc);
+        for item in self.items.as_slice() {
+            items.push(item.copy(alloc)?)?;
+        }
+        Ok(Statements { items })
+    }
+
+    pub fn same(&self, other: &Statements) -> bool
+        ensures { IsTrue result ↔ (self.now ≡ other.now) }
+    {
+        let (ours, theirs) = (self.items.as_slice(), other.items.as_slice());
+        if ours.len() != theirs.len() {
+            return false;
+        }
+        for i in 0..ours.len() {
+            if !ours[i].same(&theirs[i]) {
+                return false;
+            }
+        }
+        true
+    }
+}
