@@ -1,13 +1,9 @@
-// A library with one function.
+//! What a log says: entries, the digests and check rows that their replay leaves, and the verdict on
+//! a check row.
 #![tactic(auto)]
 
-ghost use Rattle.std.specs.Prelude.{◌≡◌};
-ghost use Rattle.history.specs.Echo.{echo_of};
+pub mod checks;
+pub mod entries;
 
-// The `ensures` clause is the contract: what `echo` returns is `echo_of` of its argument, a definition
-// in `specs/Echo.antt`, which a caller's clause can cite too.
-pub fn echo(x: usize) -> usize
-    ensures { result ≡ echo_of x }
-{
-    x
-}
+pub use checks::{CheckEntry, CheckRow, Checks, Verdict};
+pub use entries::{Entries, Entry, Origin};

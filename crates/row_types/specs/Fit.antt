@@ -1,7 +1,8 @@
 -- Which rows fit a schema, and what a table is.
-use Rattle.std.specs.Prelude.{FitsSigned, false, ℕ, ℤ, ◌≡◌, ◌≤◌, ◌<◌, List, [], ◌∷◌, IsTrue, length, take}
+use Rattle.std.specs.Prelude.{FitsSigned, false, ℕ, ℤ, ◌≡◌, ◌≤◌, ◌<◌, ◌^◌, List, [], ◌∷◌, IsTrue, length, take}
 use Rattle.std.specs.Int.{w32, w64}
 use Rattle.std.specs.List.{AllByRecursion}
+use Rattle.std.specs.Ordering.{match_ordering}
 use Rattle.std.specs.declared.cmp.Ordering.TheVariants.{Less}
 use Rattle.row_types.specs.declared.values.Value.{Value}
 use Rattle.row_types.specs.declared.values.Value.TheVariants.{Null, Int, Text as OneText}
@@ -23,6 +24,11 @@ TextFits IntColumn text = ⊥
 TextFits BigInt text = ⊥
 TextFits (TextColumn max) text = length text ≤ max
 
+abbrev pub KindFits : ColumnKind → Type 0
+KindFits IntColumn = Unit {0}
+KindFits BigInt = Unit {0}
+KindFits (TextColumn max) = max < 2 ^ 16
+
 abbrev pub ValueFits : Column → Value → Type 0
 ValueFits column Null = IsTrue column.nullable
 ValueFits column (Int n) = NumberFits column.kind n
@@ -42,11 +48,16 @@ RowFits schema row = ValuesFit schema.columns row
 abbrev pub key_of : Schema → List Value → List Value
 key_of schema row = take schema.key_len row
 
+-- a text column's length is a number of 16 bits
+abbrev pub LengthFits : Column → Type 0
+LengthFits column = KindFits column.kind
+
 -- one or two key columns, which take no NULL
 pub record IsSchema (schema : Schema) : Type 0 where
   pub key : 1 ≤ schema.key_len
   pub most : schema.key_len ≤ 2
   pub within : schema.key_len ≤ length schema.columns
+  pub lengths : AllByRecursion LengthFits schema.columns
   pub not_null : AllByRecursion (λ (column : Column). column.nullable ≡ false) (take schema.key_len schema.columns)
 
 -- the key of the row is below each of these rows' keys
@@ -64,3 +75,17 @@ AreTables [] [] = Unit {0}
 AreTables [] (rows ∷ tables) = ⊥
 AreTables (schema ∷ schemas) [] = ⊥
 AreTables (schema ∷ schemas) (rows ∷ tables) = IsTable schema rows × AreTables schemas tables
+
+-- rows with this row at its place by key, in place of one that has its key
+abbrev pub with_row : Schema → List Value → List (List Value) → List (List Value)
+with_row schema row [] = row ∷ []
+with_row schema row (other ∷ others) =
+    match_ordering (key_cmp (key_of schema row) (key_of schema other))
+    (row ∷ other ∷ others)
+    (row ∷ others)
+    (other ∷ with_row schema row others)
+
+-- rows with each of the second list put in, one after the other
+abbrev pub with_rows : Schema → List (List Value) → List (List Value) → List (List Value)
+with_rows schema rows [] = rows
+with_rows schema rows (row ∷ more) = with_rows schema (with_row schema row rows) more

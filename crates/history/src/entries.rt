@@ -1,3 +1,55 @@
+ghost use Rattle.std.specs.Prelude.{◌≡◌, ◌<◌, ◌^◌, ◌↔◌, List, [], ◌∷◌, ◌++◌, ℕ, length, IsTrue, IfOk, OnOk, OnErr};
+
+use ptc_statement::Statements;
+use row_types::R;
+use std::alloc::Global;
+use std::marker::Model;
+
+/// Who wrote an entry: the checksum tool, or a replica that applied the source's entry of a number.
+#[derive(Clone, Copy, Debug, PartialEq, Eq)]
+pub enum Origin {
+    Checksum,
+    Applied(u64),
+}
+
+/// A transaction of the source's log, or an item of a replica's history.
+#[derive(Debug, Drop)]
+pub struct Entry {
+    pub origin: Origin,
+    pub statements: Statements,
+}
+
+impl Origin {
+    pub fn copy(&self, _alloc: Global) -> R<Origin>
+        ensures { IfOk result (λ copy. copy ≡ self.now) }
+    {
+        Ok(*self)
+    }
+
+    pub fn same(&self, other: &Origin) -> bool
+        ensures { IsTrue result ↔ (self.now ≡ other.now) }
+    {
+        *self == *other
+    }
+}
+
+impl Entry {
+    pub fn copy(&self, alloc: Global) -> R<Entry>
+        ensures { IfOk result (λ copy. copy ≡ self.now) }
+    {
+        Ok(Entry {
+            origin: self.origin,
+            statements: self.statements.copy(alloc)?,
+        })
+    }
+
+    pub fn same(&self, other: &Entry) -> bool
+        ensures { IsTrue result ↔ (self.now ≡ other.now) }
+    {
+        self.origin.same(&other.origin) && self.statements.same(&other.statements)
+    }
+}
+
 /// Entries, numbered from 1.
 #[derive(Debug, Drop)]
 pub struct Entries {

@@ -1,0 +1,58 @@
+-- What a printed verdict means: it compares the source's and the replica's rows of its chunk, both
+-- replayed from the log to one position.
+use Rattle.std.specs.Prelude.{ℕ, ◌≡◌, ◌≢◌, ◌≤◌, ◌+◌, ◌↔◌, List, [], ◌∷◌, Option, None, Some, length, IfSome}
+use Rattle.std.specs.List.{AllByRecursion}
+use Rattle.row_types.specs.declared.values.Value.{Value}
+use Rattle.row_types.specs.declared.digests.DigestKind.{DigestKind}
+use Rattle.row_types.specs.declared.table_schema.Schema.{Schema}
+use Rattle.ptc_statement.specs.declared.statements.Statement.{Statement}
+use Rattle.ptc_statement.specs.declared.statements.Statement.TheVariants.{Check, SetMaster, ClearChecks}
+use Rattle.history.specs.declared.entries.Entry.{Entry}
+use Rattle.history.specs.declared.checks.CheckRow.{CheckRow}
+use Rattle.history.specs.declared.checks.Verdict.TheVariants.{Same, Differ, Pending}
+use Rattle.history.specs.Checks.{check_at, verdict_of_row}
+use Rattle.history.specs.Digest.{digest_of}
+use Rattle.history.specs.Replay.{Replayed, chunk_rows, after_entry, fold, source_at, replica_at, Follows}
+
+-- a SETMASTER publishes the checksum that the check row of its chunk has there
+abbrev pub IsTrueMaster : Statement → Replayed → Type 0
+IsTrueMaster (Check table chunk span kind) here = Unit {0}
+IsTrueMaster (SetMaster table chunk kind master) here =
+    (row : CheckRow) × (check_at table chunk here.checks ≡ Some row) × (row.this ≡ master) × (row.kind ≡ kind)
+IsTrueMaster (ClearChecks table) here = Unit {0}
+
+-- each entry of the log has one statement, and each SETMASTER publishes the source's own checksum
+abbrev pub MastersAreTrueFrom : List Schema → ℕ → List Entry → Replayed → Type 0
+MastersAreTrueFrom schemas number [] here = Unit {0}
+MastersAreTrueFrom schemas number (entry ∷ entries) here =
+    (statement : Statement) × (entry.statements ≡ statement ∷ []) × IsTrueMaster statement here
+    × MastersAreTrueFrom schemas (number + 1) entries (after_entry schemas number entry here)
+
+abbrev pub MastersAreTrue : List Schema → List (List (List Value)) → List Entry → Type 0
+MastersAreTrue schemas start log = MastersAreTrueFrom schemas 1 log (record { tables = start; checks = [] })
+
+-- the digests of these two lists tell them apart, if they differ
+abbrev pub DigestsDistinguish : DigestKind → List (List Value) → List (List Value) → Type 0
+DigestsDistinguish kind source_rows replica_rows = digest_of kind source_rows ≡ digest_of kind replica_rows → source_rows ≡ replica_rows
+
+-- a check row with the source's checksum compares these two lists of rows
+pub record Compares (row : CheckRow) (source_rows replica_rows : List (List Value)) : Type 0 where
+  -- its counts are their lengths
+  pub master_count : IfSome row.master (λ master. master.count ≡ length source_rows)
+  pub own_count : row.this.count ≡ length replica_rows
+  -- DIFFER stands exactly where their digests differ
+  pub differ : (verdict_of_row row ≡ Differ) ↔ (digest_of row.kind source_rows ≢ digest_of row.kind replica_rows)
+  -- so DIFFER means that they differ, and SAME that they are equal where digests distinguish them
+  pub rows_differ : verdict_of_row row ≡ Differ → source_rows ≢ replica_rows
+  pub rows_same : verdict_of_row row ≡ Same → DigestsDistinguish row.kind source_rows replica_rows → source_rows ≡ replica_rows
+
+-- each check row of a replica that has the source's checksum compares the rows of its chunk on the
+-- source and on the replica, both at the row's position
+abbrev pub EachVerdictCompares : List Schema → List (List (List Value)) → List Entry → List (List (List Value)) → List Entry → Type 0
+EachVerdictCompares schemas source_start log replica_start history =
+    (table chunk : ℕ) (row : CheckRow)
+    → check_at table chunk (fold schemas replica_start history).checks ≡ Some row
+    → verdict_of_row row ≢ Pending
+    → Compares row
+    (chunk_rows schemas (source_at schemas source_start log row.position).tables table row.span)
+    (chunk_rows schemas (replica_at schemas replica_start history row.position).tables table row.span)
