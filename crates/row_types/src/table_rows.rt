@@ -1,4 +1,4 @@
-ghost use Rattle.std.specs.Prelude.{◌≡◌, ◌<◌, ◌^◌, ◌↔◌, List, [], ◌∷◌, ◌++◌, ℕ, length, IsTrue, IfOk, OnOk, OnErr};
+ghost use Rattle.std.specs.Prelude.{◌≡◌, ◌<◌, ◌^◌, ◌↔◌, List, [], ◌∷◌, ◌++◌, ℕ, length, IsTrue, IfOk, OnOk, OnErr, slice_index_or};
 
 use crate::memory::R;
 use crate::values::Value;
@@ -239,5 +239,17 @@ impl Tables {
             }
         }
         true
+    }
+}
+
+impl Tables {
+    /// The rows of the table of this number, counted from 0; none where there is no such table.
+    pub fn rows_of(&self, table: u32) -> &[Row]
+        ensures { result.now ≡ slice_index_or self.now table [] }
+    {
+        match self.items.get(table as usize) {
+            None => &[],
+            Some(rows) => rows.as_slice(),
+        }
     }
 }

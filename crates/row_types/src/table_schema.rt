@@ -1,4 +1,6 @@
 ghost use Rattle.std.specs.Prelude.{◌≡◌, ◌<◌, ◌^◌, ◌↔◌, List, [], ◌∷◌, ◌++◌, ℕ, length, IsTrue, IfOk, OnOk, OnErr};
+ghost use Rattle.std.specs.Option.{option_copied};
+ghost use Rattle.std.specs.List.{slice_get};
 
 use crate::byte_list::Bytes;
 use crate::memory::R;
@@ -260,5 +262,14 @@ impl Schemas {
         ensures { IsTrue result ↔ (self.now ≡ other.now) }
     {
         self.tables.same(&other.tables)
+    }
+}
+
+impl SchemaList {
+    /// The schema of the table of this number, counted from 0.
+    pub fn get(&self, table: u32) -> Option<&Schema>
+        ensures { option_copied result ≡ slice_get self.now table }
+    {
+        self.items.get(table as usize)
     }
 }
