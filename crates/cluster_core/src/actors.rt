@@ -1,8 +1,7 @@
 ghost use Rattle.std.specs.Prelude.{◌≡◌, ◌↔◌, IsTrue, IfOk};
 
-use std::alloc::Global;
-
 use row_types::R;
+use std::alloc::Global;
 
 /// Who takes turns: the checksum tool, and the workers of the replicas. Replicas and workers are
 /// numbered from 1.

@@ -1,0 +1,207 @@
+-- The report of a world: its lines, in the order in which they are written.
+use Rattle.std.specs.Prelude.{ℕ, ◌≡◌, ◌+◌, Bool, true, false, cond, List, [], ◌∷◌, ◌++◌, Option, None, Some, codes, map}
+use Rattle.std.specs.List.{flat_map, list_any}
+use Rattle.std.specs.Option.{option_map}
+use Rattle.std.specs.Fmt.{decimal}
+use Rattle.std.specs.Ordering.{is_eq}
+use Rattle.std.specs.Cmp.Lexicographic.{slice_cmp}
+use Rattle.row_types.specs.declared.values.Value.{Value}
+use Rattle.row_types.specs.declared.edges.Span.{Span}
+use Rattle.row_types.specs.declared.table_schema.Schema.{Schema}
+use Rattle.row_types.specs.declared.digests.Digest.{Digest}
+use Rattle.row_types.specs.Order.{key_cmp}
+use Rattle.ptc_statement.specs.declared.statements.Statement.{Statement}
+use Rattle.history.specs.declared.entries.Origin.{Origin}
+use Rattle.history.specs.declared.entries.Origin.TheVariants.{Checksum, Applied}
+use Rattle.history.specs.declared.entries.Entry.{Entry}
+use Rattle.history.specs.declared.checks.CheckRow.{CheckRow}
+use Rattle.history.specs.declared.checks.CheckEntry.{CheckEntry}
+use Rattle.history.specs.declared.checks.Verdict.{Verdict}
+use Rattle.history.specs.declared.checks.Verdict.TheVariants.{Same, Differ, Pending}
+use Rattle.history.specs.Checks.{check_at, with_absent, verdict_of_row}
+use Rattle.cluster_core.specs.Node.{NodeView, replayed_of}
+use Rattle.cluster_core.specs.World.{WorldView}
+use Rattle.cluster_core.specs.Texts.{name_of, table_line, tuple_text, span_text, statement_text}
+
+unfoldable pub replica_text : ℕ → List ℕ
+replica_text replica = codes "r" ++ decimal replica
+
+-- START or FINAL, the node, the table, the row
+unfoldable pub row_line : List ℕ → List ℕ → List ℕ → List Value → List ℕ
+row_line word node name row = word ++ codes " " ++ node ++ codes " " ++ name ++ codes " " ++ tuple_text row ++ codes "\n"
+
+abbrev pub rows_lines : List ℕ → List ℕ → List ℕ → List (List Value) → List ℕ
+rows_lines word node name rows = flat_map (row_line word node name) rows
+
+-- the rows of a node's tables, the first table of this number
+abbrev pub tables_lines : List Schema → List ℕ → List ℕ → ℕ → List (List (List Value)) → List ℕ
+tables_lines schemas word node table [] = []
+tables_lines schemas word node table (rows ∷ tables) =
+    rows_lines word node (name_of schemas table) rows ++ tables_lines schemas word node (table + 1) tables
+
+unfoldable pub origin_text : Origin → List ℕ
+origin_text Checksum = codes "c"
+origin_text (Applied entry) = codes "applied " ++ decimal entry
+
+unfoldable pub statement_line : List Schema → Statement → List ℕ
+statement_line schemas statement = codes "  " ++ statement_text schemas statement ++ codes "\n"
+
+-- an entry of the log and its statements
+unfoldable pub entry_lines : List Schema → ℕ → Entry → List ℕ
+entry_lines schemas number entry =
+    codes "LOG " ++ decimal number ++ codes " " ++ origin_text entry.origin ++ codes "\n"
+    ++ flat_map (statement_line schemas) entry.statements
+
+-- the entries of a log, the first of this number
+abbrev pub log_lines : List Schema → ℕ → List Entry → List ℕ
+log_lines schemas number [] = []
+log_lines schemas number (entry ∷ entries) = entry_lines schemas number entry ++ log_lines schemas (number + 1) entries
+
+-- an item of a replica's history
+unfoldable pub item_line : ℕ → Entry → List ℕ
+item_line replica item = codes "HISTORY " ++ replica_text replica ++ codes " " ++ origin_text item.origin ++ codes "\n"
+
+abbrev pub history_lines : ℕ → List Entry → List ℕ
+history_lines replica history = flat_map (item_line replica) history
+
+-- what a VERDICT line says of a replica's chunk; a count that isn't known is none
+pub record VerdictLine : Type 0 where
+  pub replica : ℕ
+  pub table : ℕ
+  pub chunk : ℕ
+  pub span : Span
+  pub position : ℕ
+  pub master_count : Option ℕ
+  pub own_count : Option ℕ
+  pub verdict : Verdict
+
+-- by the replica's row of the chunk; where it has none, by that of the source, with no counts
+abbrev pub verdict_line : ℕ → CheckEntry → Option CheckRow → VerdictLine
+verdict_line replica entry (Some own) = record {
+  replica = replica;
+  table = entry.table;
+  chunk = entry.chunk;
+  span = own.span;
+  position = own.position;
+  master_count = option_map (λ (master : Digest). master.count) own.master;
+  own_count = Some own.this.count;
+  verdict = verdict_of_row own;
+}
+verdict_line replica entry None = record {
+  replica = replica;
+  table = entry.table;
+  chunk = entry.chunk;
+  span = entry.row.span;
+  position = entry.row.position;
+  master_count = None;
+  own_count = None;
+  verdict = Pending;
+}
+
+-- the chunks that the replica or the source has a check row of, by table and chunk
+abbrev pub all_chunks : List CheckEntry → List CheckEntry → List CheckEntry
+all_chunks replica [] = replica
+all_chunks replica (entry ∷ source) = all_chunks (with_absent entry replica) source
+
+abbrev pub verdicts_on : ℕ → List CheckEntry → List CheckEntry → List VerdictLine
+verdicts_on replica own entries = map (λ (entry : CheckEntry). verdict_line replica entry (check_at entry.table entry.chunk own)) entries
+
+-- the verdicts on a replica, from the source's check rows and its own
+abbrev pub replica_verdicts : ℕ → List CheckEntry → List CheckEntry → List VerdictLine
+replica_verdicts replica source own = verdicts_on replica own (all_chunks own source)
+
+-- the verdicts on the replicas, the first of this number
+abbrev pub verdicts_from : ℕ → List CheckEntry → List NodeView → List VerdictLine
+verdicts_from number source [] = []
+verdicts_from number source (node ∷ nodes) = replica_verdicts number source (replayed_of node).checks ++ verdicts_from (number + 1) source nodes
+
+-- the VERDICT lines of a world
+abbrev pub verdicts_of : WorldView → List VerdictLine
+verdicts_of w = verdicts_from 1 (replayed_of w.source).checks w.replicas
+
+unfoldable pub verdict_text : Verdict → List ℕ
+verdict_text Same = codes "SAME"
+verdict_text Differ = codes "DIFFER"
+verdict_text Pending = codes "PENDING"
+
+unfoldable pub count_text : Option ℕ → List ℕ
+count_text None = codes "-"
+count_text (Some count) = decimal count
+
+-- the replica, the table and the number of the chunk
+unfoldable pub verdict_place_text : List Schema → VerdictLine → List ℕ
+verdict_place_text schemas line = codes "VERDICT " ++ replica_text line.replica ++ codes " " ++ name_of schemas line.table ++ codes " " ++ decimal line.chunk
+
+unfoldable pub verdict_counts_text : VerdictLine → List ℕ
+verdict_counts_text line = codes " COUNT " ++ count_text line.master_count ++ codes " " ++ count_text line.own_count
+
+unfoldable pub verdict_line_text : List Schema → VerdictLine → List ℕ
+verdict_line_text schemas line =
+    verdict_place_text schemas line ++ codes " " ++ span_text line.span ++ codes " AT " ++ decimal line.position
+    ++ verdict_counts_text line ++ codes " " ++ verdict_text line.verdict ++ codes "\n"
+
+abbrev pub rows_equal : List (List Value) → List (List Value) → Bool
+rows_equal rows others = is_eq (slice_cmp key_cmp rows others)
+
+unfoldable pub equal_line : ℕ → List ℕ → Bool → List ℕ
+equal_line replica name equal = cond equal (codes "EQUAL ") (codes "UNEQUAL ") ++ replica_text replica ++ codes " " ++ name ++ codes "\n"
+
+-- whether the tables of a replica are the source's, the first table of this number
+abbrev pub equal_lines : List Schema → ℕ → ℕ → List (List (List Value)) → List (List (List Value)) → List ℕ
+equal_lines schemas replica table [] others = []
+equal_lines schemas replica table (rows ∷ tables) [] = []
+equal_lines schemas replica table (rows ∷ tables) (own ∷ others) =
+    equal_line replica (name_of schemas table) (rows_equal rows own) ++ equal_lines schemas replica (table + 1) tables others
+
+-- lines for each replica, the first of this number
+abbrev pub each_replica : (ℕ → NodeView → List ℕ) → ℕ → List NodeView → List ℕ
+each_replica lines number [] = []
+each_replica lines number (node ∷ nodes) = lines number node ++ each_replica lines (number + 1) nodes
+
+abbrev pub start_lines : List Schema → ℕ → NodeView → List ℕ
+start_lines schemas replica node = tables_lines schemas (codes "START") (replica_text replica) 0 node.start
+
+abbrev pub final_lines : List Schema → ℕ → NodeView → List ℕ
+final_lines schemas replica node = tables_lines schemas (codes "FINAL") (replica_text replica) 0 (replayed_of node).tables
+
+abbrev pub equals_of : List Schema → List (List (List Value)) → ℕ → NodeView → List ℕ
+equals_of schemas source replica node = equal_lines schemas replica 0 source (replayed_of node).tables
+
+abbrev pub is_differ : Verdict → Bool
+is_differ Same = false
+is_differ Differ = true
+is_differ Pending = false
+
+-- 16 where a DIFFER line stands, else 0
+abbrev pub status_of : WorldView → ℕ
+status_of w = cond (list_any (λ (line : VerdictLine). is_differ line.verdict) (verdicts_of w)) 16 0
+
+unfoldable pub head_text : List Schema → List ℕ
+head_text schemas = codes "PTC REPORT 1\n" ++ flat_map table_line schemas
+
+-- what each node began with
+unfoldable pub starts_text : WorldView → List ℕ
+starts_text w =
+    tables_lines w.source.schemas (codes "START") (codes "source") 0 w.source.start
+    ++ each_replica (start_lines w.source.schemas) 1 w.replicas
+
+-- the log and each replica's history
+unfoldable pub histories_text : WorldView → List ℕ
+histories_text w = log_lines w.source.schemas 1 w.source.history ++ each_replica (λ replica (node : NodeView). history_lines replica node.history) 1 w.replicas
+
+unfoldable pub verdicts_text : WorldView → List ℕ
+verdicts_text w = flat_map (verdict_line_text w.source.schemas) (verdicts_of w)
+
+-- the rows at the end, and which tables are equal
+unfoldable pub finals_text : WorldView → List ℕ
+finals_text w =
+    tables_lines w.source.schemas (codes "FINAL") (codes "source") 0 (replayed_of w.source).tables
+    ++ each_replica (final_lines w.source.schemas) 1 w.replicas
+    ++ each_replica (equals_of w.source.schemas (replayed_of w.source).tables) 1 w.replicas
+
+unfoldable pub status_text : WorldView → List ℕ
+status_text w = codes "STATUS " ++ decimal (status_of w) ++ codes "\n"
+
+-- the whole report
+unfoldable pub report_of : WorldView → List ℕ
+report_of w = head_text w.source.schemas ++ starts_text w ++ histories_text w ++ verdicts_text w ++ finals_text w ++ status_text w
