@@ -2,7 +2,11 @@
 #![tactic(auto)]
 
 pub mod actors;
+pub mod nodes;
 pub mod workload;
+pub mod worlds;
 
 pub use actors::{Actor, ToolPhase};
+pub use nodes::Node;
 pub use workload::{Copies, Workload};
+pub use worlds::World;

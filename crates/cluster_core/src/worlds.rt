@@ -1,0 +1,209 @@
+ghost use Rattle.std.specs.Prelude.{◌≡◌, ◌<◌, ◌≤◌, ◌↔◌, ◌++◌, [], ◌∷◌, IsTrue, IfOk, OnOk, OnErr, None, Some, is_some, unwrap_or};
+ghost use Rattle.history.specs.Checks.{check_at};
+ghost use Rattle.cluster_core.specs.Node.{replayed_of};
+ghost use Rattle.cluster_core.specs.Workload.{IsWorkload};
+ghost use Rattle.cluster_core.specs.World.{begun, turn, tool_turn, worker_turn, tool_logged, published, next_phase, next_applied, order, EndsIn, Reaches};
+ghost use Rattle.cluster_core.specs.Turns.{IsNumbered, Takes, TookTurns};
+
+use std::alloc::Global;
+use std::marker::Model;
+
+use crate::actors::{Actor, ToolPhase};
+use crate::nodes::Node;
+use crate::workload::Workload;
+use history::{Entries, Entry, Origin};
+use ptc_statement::{Statement, Statements};
+use row_types::{DigestKind, R, Span};
+
+/// A source, its replicas and the checksum tool. Each turn does one whole statement or applies one
+/// whole entry.
+#[derive(Drop)]
+pub struct World {
+    source: Node,
+    replicas: Vec<Node>,
+    phase: ToolPhase,
+    alloc: Global,
+}
+
+impl Model for World {
+    ghost use Rattle.cluster_core.specs.World.{WorldView};
+
+    ghost Value = { WorldView };
+
+    ghost use Rattle.cluster_core.specs.WorldParts.{world_view, IsWithinLimits};
+
+    ghost view = { world_view };
+
+    ghost invariant = { IsWithinLimits };
+}
+
+impl World {
+    /// The world before anything happened.
+    pub fn new(alloc: Global, workload: Workload) -> R<World>
+        requires { IsWorkload workload }
+        ensures { IfOk result (λ world. world ≡ begun workload) }
+    {
+        let Workload {
+            schemas,
+            replicas: _,
+            source,
+            copies,
+        } = workload;
+        let mut replicas = Vec::new(alloc);
+        for start in copies.items {
+            replicas.push(Node::new(alloc, schemas.copy(alloc)?, start)?)?;
+        }
+        Ok(World {
+            source: Node::new(alloc, schemas, source)?,
+            replicas,
+            phase: ToolPhase::Clear { table: 0 },
+            alloc,
+        })
+    }
+
+    /// One turn of an actor: whether it moved. A refusal leaves the world as it was.
+    pub fn turn(&mut self, actor: Actor) -> R<bool>
+        requires { IsNumbered actor }
+        ensures ok { IfOk result (λ moved. Takes (turn actor self.old) moved self.old self.new) }
+        ensures err { OnErr result (self.new ≡ self.old) }
+    {
+        match actor {
+            Actor::Tool => self.tool_turn(),
+            Actor::Worker { replica, worker: 1 } => self.worker_turn(replica),
+            Actor::Worker { .. } => Ok(false),
+        }
+    }
+
+    /// Rounds, in which each actor takes one turn, until nobody can move. A refusal leaves the world
+    /// after some of these turns.
+    pub fn run(&mut self) -> R<()>
+        ensures ok { OnOk result (EndsIn self.old self.new) }
+        ensures err { OnErr result (Reaches self.old self.new) }
+    {
+        loop {
+            if !self.round()? {
+                return Ok(());
+            }
+        }
+    }
+
+    /// One turn of each actor: whether one of them moved.
+    fn round(&mut self) -> R<bool>
+        ensures ok { IfOk result (λ moved. TookTurns self.old self.new (order self.old) moved) }
+        ensures err { OnErr result (Reaches self.old self.new) }
+    {
+        let mut moved = self.turn(Actor::Tool)?;
+        let replicas = self.replicas.len() as u32;
+        for place in 0..replicas {
+            let actor = Actor::Worker {
+                replica: place + 1,
+                worker: 1,
+            };
+            if self.turn(actor)? {
+                moved = true;
+            }
+        }
+        Ok(moved)
+    }
+
+    fn tool_turn(&mut self) -> R<bool>
+        ensures ok { IfOk result (λ moved. Takes (tool_turn self.old) moved self.old self.new) }
+        ensures err { OnErr result (self.new ≡ self.old) }
+    {
+        match self.phase {
+            ToolPhase::Clear { table } => {
+                self.log_by_tool(Statement::ClearChecks { table }, ToolPhase::Check { table })?;
+                Ok(true)
+            }
+            ToolPhase::Check { table } => {
+                let check = Statement::Check {
+                    table,
+                    chunk: 1,
+                    span: Span::whole(),
+                    kind: DigestKind::Md5,
+                };
+                self.log_by_tool(check, ToolPhase::Master { table })?;
+                Ok(true)
+            }
+            ToolPhase::Master { table } => self.publish_master(table),
+            ToolPhase::Finished => Ok(false),
+        }
+    }
+
+    /// Logs SETMASTER with the checksum that the source's check row has.
+    fn publish_master(&mut self, table: u32) -> R<bool>
+        ensures ok { IfOk result (λ moved. Takes (published table (check_at table 1 (replayed_of self.old.source).checks) self.old) moved self.old self.new) }
+        ensures err { OnErr result (self.new ≡ self.old) }
+    {
+        let Some(row) = self.source.checks().get(table, 1) else {
+            return Ok(false);
+        };
+        let master = Statement::SetMaster {
+            table,
+            chunk: 1,
+            kind: row.kind,
+            master: row.this,
+        };
+        let phase = self.next_phase(table);
+        self.log_by_tool(master, phase)?;
+        Ok(true)
+    }
+
+    fn next_phase(&self, table: u32) -> ToolPhase
+        ensures { result ≡ next_phase table self.now }
+    {
+        let tables = self.source.schemas().tables.len();
+        if (table as usize) + 1 < tables {
+            ToolPhase::Clear { table: table + 1 }
+        } else {
+            ToolPhase::Finished
+        }
+    }
+
+    fn log_by_tool(&mut self, statement: Statement, phase: ToolPhase) -> R<()>
+        ensures ok { OnOk result (self.new ≡ tool_logged statement phase self.old) }
+        ensures err { OnErr result (self.new ≡ self.old) }
+    {
+        let mut statements = Statements::new(self.alloc);
+        statements.push(statement)?;
+        self.source.log(Entry {
+            origin: Origin::Checksum,
+            statements,
+        })?;
+        self.phase = phase;
+        Ok(())
+    }
+
+    fn worker_turn(&mut self, replica: u32) -> R<bool>
+        requires { 1 ≤ replica }
+        ensures ok { IfOk result (λ moved. Takes (worker_turn replica self.old) moved self.old self.new) }
+        ensures err { OnErr result (self.new ≡ self.old) }
+    {
+        let place = (replica - 1) as usize;
+        if self.replicas.len() <= place {
+            return Ok(false);
+        }
+        apply_next(
+            self.alloc,
+            self.source.history(),
+            &mut self.replicas[place],
+        )
+    }
+}
+
+/// Applies the log's next entry whole, where there is one.
+fn apply_next(alloc: Global, log: &Entries, node: &mut Node) -> R<bool>
+    ensures ok { IfOk result (λ moved. Takes (next_applied log.now node.old) moved node.old node.new) }
+    ensures err { OnErr result (node.new ≡ node.old) }
+{
+    let applied = node.applied();
+    let Some(entry) = log.as_slice().get(applied as usize) else {
+        return Ok(false);
+    };
+    let item = Entry {
+        origin: Origin::Applied(applied + 1),
+        statements: entry.statements.copy(alloc)?,
+    };
+    node.log(item)?;
+    Ok(true)
+}
