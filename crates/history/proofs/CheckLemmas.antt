@@ -1,12 +1,12 @@
 -- The check row of a chunk after each change of the check rows.
-use Rattle.std.proofs.Common.{◌≡◌, ◌≢◌, ◌⊎◌, ◌↔◌, ℕ, ◌==◌, ◌&&◌, Bool, true, false, cond, not, List, [], ◌∷◌, Option, None, Some, option_map, IsTrue, refl, ap, ◌∙◌, sym, arith, Decides, filter}
+use Rattle.std.proofs.Common.{◌≡◌, ◌≢◌, ◌⊎◌, ◌↔◌, ℕ, ◌==◌, ◌&&◌, cond, List, [], ◌∷◌, None, Some, option_map, IsTrue, refl, ap, arith, Decides}
 use Rattle.std.proofs.lemmas.Bool.Decides.{nat_tests, Decides-and, Decides-eqb}
 use Rattle.std.proofs.lemmas.Slice.Eq.{bytes_eq-Decides}
 use Rattle.std.specs.Str.{bytes_eq}
 use Rattle.row_types.specs.declared.digests.Digest.{Digest}
 use Rattle.history.specs.declared.checks.CheckRow.{CheckRow}
 use Rattle.history.specs.declared.checks.CheckEntry.{CheckEntry}
-use Rattle.history.specs.Checks.{check_at, with_check, with_master, without_table, mastered, digest_eq, place_cmp, is_for}
+use Rattle.history.specs.Checks.{check_at, with_check, with_master, without_table, mastered, digest_eq}
 
 -- the row that is put in stands at its chunk, and the other chunks keep theirs
 check_at-with_check_step : (table chunk t c : ℕ) (row : CheckRow) (entry : CheckEntry) (entries : List CheckEntry)

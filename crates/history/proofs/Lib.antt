@@ -1,2 +1,3 @@
 pub mod CheckLemmas
 pub mod ReplayLemmas
+pub mod VerdictLemmas

@@ -4,6 +4,7 @@
 
 pub mod checks;
 pub mod entries;
+pub mod laws;
 
 pub use checks::{CheckEntry, CheckRow, Checks, Verdict};
 pub use entries::{Entries, Entry, Origin};
