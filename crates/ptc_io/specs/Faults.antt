@@ -1,0 +1,11 @@
+-- What a count of faults does over a call that may fail.
+use Rattle.std.specs.Prelude.{ℕ, ◌<◌, ◌≤◌, Result, OnErr}
+
+-- a fault more has been counted
+abbrev pub HasRisen : ℕ → ℕ → Type 0
+HasRisen old new = old < new
+
+-- the count of faults never falls, and a call that fails has raised it
+pub record HasCause {T E : Type 0} (old new : ℕ) (r : Result T E) : Type 0 where
+  pub never_falls : old ≤ new
+  pub failed : OnErr r (HasRisen old new)
