@@ -1,7 +1,7 @@
--- What a printed verdict means: it compares the source's and the replica's rows of its chunk, both
--- replayed from the log to one position.
-use Rattle.std.specs.Prelude.{ℕ, ◌≡◌, ◌≢◌, ◌≤◌, ◌+◌, ◌↔◌, List, [], ◌∷◌, Option, None, Some, length, IfSome}
-use Rattle.std.specs.List.{AllByRecursion}
+-- What a printed verdict means: at a position that the replica has applied the log has a CHECKSUM of
+-- its chunk, and it compares the source's and the replica's rows there, both replayed to that position.
+use Rattle.std.specs.Prelude.{ℕ, ◌≡◌, ◌≢◌, ◌≤◌, ◌+◌, ◌-◌, ◌↔◌, List, [], ◌∷◌, Some, length, IfSome}
+use Rattle.std.specs.List.{slice_get}
 use Rattle.row_types.specs.declared.values.Value.{Value}
 use Rattle.row_types.specs.declared.digests.DigestKind.{DigestKind}
 use Rattle.row_types.specs.declared.table_schema.Schema.{Schema}
@@ -12,7 +12,7 @@ use Rattle.history.specs.declared.checks.CheckRow.{CheckRow}
 use Rattle.history.specs.declared.checks.Verdict.TheVariants.{Same, Differ, Pending}
 use Rattle.history.specs.Checks.{check_at, verdict_of_row}
 use Rattle.history.specs.Digest.{digest_of}
-use Rattle.history.specs.Replay.{Replayed, chunk_rows, after_entry, fold, source_at, replica_at, Follows}
+use Rattle.history.specs.Replay.{Replayed, chunk_rows, after_entry, fold, source_at, replica_at, applied_of}
 
 -- a SETMASTER publishes the checksum that the check row of its chunk has there
 abbrev pub IsTrueMaster : Statement → Replayed → Type 0
@@ -46,13 +46,28 @@ pub record Compares (row : CheckRow) (source_rows replica_rows : List (List Valu
   pub rows_differ : verdict_of_row row ≡ Differ → source_rows ≢ replica_rows
   pub rows_same : verdict_of_row row ≡ Same → DigestsDistinguish row.kind source_rows replica_rows → source_rows ≡ replica_rows
 
--- each check row of a replica that has the source's checksum compares the rows of its chunk on the
--- source and on the replica, both at the row's position
+-- the log's entry at this position, the first being 1, has this statement alone
+abbrev pub HasStatementAt : List Entry → ℕ → Statement → Type 0
+HasStatementAt log position statement =
+    (entry : Entry) × (slice_get log (position - 1) ≡ Some entry) × (entry.statements ≡ statement ∷ [])
+
+-- a check row of a chunk is a verdict on the replica at the row's position
+pub record IsVerdict (schemas : List Schema) (source_start : List (List (List Value))) (log : List Entry) (replica_start : List (List (List Value))) (history : List Entry) (table chunk : ℕ) (row : CheckRow) : Type 0 where
+  -- that is a position of the log, whose first is 1, and the replica has applied the entry there
+  pub from_one : 1 ≤ row.position
+  pub in_log : row.position ≤ length log
+  pub applied : row.position ≤ applied_of history
+  -- the entry there is the CHECKSUM of this chunk, over the row's span and of its kind
+  pub checked : HasStatementAt log row.position (Check table chunk row.span row.kind)
+  -- the row compares the rows of its span on the source and on the replica, both at that position
+  pub compares : Compares row
+      (chunk_rows schemas (source_at schemas source_start log row.position).tables table row.span)
+      (chunk_rows schemas (replica_at schemas replica_start history row.position).tables table row.span)
+
+-- each check row of a replica that has the source's checksum is a verdict
 abbrev pub EachVerdictCompares : List Schema → List (List (List Value)) → List Entry → List (List (List Value)) → List Entry → Type 0
 EachVerdictCompares schemas source_start log replica_start history =
     (table chunk : ℕ) (row : CheckRow)
     → check_at table chunk (fold schemas replica_start history).checks ≡ Some row
     → verdict_of_row row ≢ Pending
-    → Compares row
-    (chunk_rows schemas (source_at schemas source_start log row.position).tables table row.span)
-    (chunk_rows schemas (replica_at schemas replica_start history row.position).tables table row.span)
+    → IsVerdict schemas source_start log replica_start history table chunk row
