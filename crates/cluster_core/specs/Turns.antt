@@ -1,5 +1,5 @@
 -- What a turn gives, and how many turns can still move.
-use Rattle.std.specs.Prelude.{ℕ, ◌≡◌, ◌+◌, ◌-◌, ◌*◌, ◌<◌, ◌≤◌, Bool, true, false, Option, List, [], ◌∷◌, length, None, is_some, unwrap_or, sum_by}
+use Rattle.std.specs.Prelude.{ℕ, ◌≡◌, ◌+◌, ◌-◌, ◌*◌, ◌<◌, ◌≤◌, Bool, true, false, Option, List, [], ◌∷◌, length, None, is_some, unwrap_or}
 use Rattle.std.specs.List.{AllByRecursion}
 use Rattle.history.specs.Replay.{applied_of}
 use Rattle.cluster_core.specs.Node.{NodeView}
@@ -28,7 +28,8 @@ entries_left tables Finished = 0
 
 -- how many entries of a log of this length the replicas have still to apply
 abbrev pub lags : ℕ → List NodeView → ℕ
-lags end nodes = sum_by (λ (node : NodeView). end - applied_of node.history) nodes
+lags end [] = 0
+lags end (node ∷ nodes) = end - applied_of node.history + lags end nodes
 
 -- no more turns than these can move
 abbrev pub turns_left : WorldView → ℕ

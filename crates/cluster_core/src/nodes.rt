@@ -40,6 +40,7 @@ impl Model for Node {
 
 impl Node {
     /// A node whose history is empty.
+    #[tactic(auto, using(crate::proofs::NodeLemmas::are_checkable))]
     pub fn new(alloc: Global, schemas: Schemas, start: Tables) -> R<Node>
         requires schemas { AllByRecursion IsSchema schemas.tables }
         requires start { AreTables schemas.tables start }
@@ -132,6 +133,7 @@ fn position_from(number: u64, origin: Origin) -> u64
 }
 
 /// The check rows after an entry, made beside the present ones, which stay as they are.
+#[tactic(auto, using(crate::proofs::NodeLemmas::after_one))]
 fn checks_after_entry(
     alloc: Global,
     schemas: &Schemas,
@@ -144,8 +146,10 @@ fn checks_after_entry(
     ensures { IfOk result (λ after. after_statements schemas.now.tables position entry.now.statements (record { tables = live.now; checks = checks.now }) ≡ record { tables = live.now; checks = after }) }
 {
     let mut after = checks.copy(alloc)?;
-    for statement in entry.statements.as_slice() {
+    let mut rest = entry.statements.as_slice();
+    while let Some((statement, more)) = rest.split_first() {
         perform(alloc, schemas, live, &mut after, position, statement)?;
+        rest = more;
     }
     Ok(after)
 }
@@ -197,6 +201,7 @@ fn perform(
 }
 
 /// The checksum of a table's rows in a span; a table that isn't there has no rows.
+#[tactic(auto, using(crate::proofs::NodeLemmas::checkable_at))]
 fn chunk_digest(
     alloc: Global,
     schemas: &Schemas,

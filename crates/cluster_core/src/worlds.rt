@@ -1,8 +1,10 @@
-ghost use Rattle.std.specs.Prelude.{◌≡◌, ◌<◌, ◌≤◌, ◌↔◌, ◌++◌, [], ◌∷◌, IsTrue, IfOk, OnOk, OnErr, None, Some, is_some, unwrap_or};
+ghost use Rattle.std.specs.Prelude.{◌≡◌, ◌<◌, ◌≤◌, ◌↔◌, ◌++◌, [], ◌∷◌, IsTrue, IfOk, OnOk, OnErr, None, Some, is_some, unwrap_or, map};
+ghost use Rattle.std.specs.List.{AllByRecursion};
+ghost use Rattle.row_types.specs.Fit.{IsSchema, AreTables};
 ghost use Rattle.history.specs.Checks.{check_at};
 ghost use Rattle.cluster_core.specs.Node.{replayed_of};
 ghost use Rattle.cluster_core.specs.Workload.{IsWorkload};
-ghost use Rattle.cluster_core.specs.World.{begun, turn, tool_turn, worker_turn, tool_logged, published, next_phase, next_applied, order, EndsIn, Reaches};
+ghost use Rattle.cluster_core.specs.World.{begun, fresh, turn, tool_turn, worker_turn, tool_logged, published, next_phase, next_applied, order, EndsIn, Reaches};
 ghost use Rattle.cluster_core.specs.Turns.{IsNumbered, Takes, TookTurns};
 
 use std::alloc::Global;
@@ -13,7 +15,7 @@ use crate::nodes::Node;
 use crate::workload::Workload;
 use history::{Entries, Entry, Origin};
 use ptc_statement::{Statement, Statements};
-use row_types::{DigestKind, R, Span};
+use row_types::{DigestKind, R, Schemas, Span, Tables};
 
 /// A source, its replicas and the checksum tool. Each turn does one whole statement or applies one
 /// whole entry.
@@ -49,10 +51,7 @@ impl World {
             source,
             copies,
         } = workload;
-        let mut replicas = Vec::new(alloc);
-        for start in copies.items {
-            replicas.push(Node::new(alloc, schemas.copy(alloc)?, start)?)?;
-        }
+        let replicas = fresh_nodes(alloc, &schemas, copies.items)?;
         Ok(World {
             source: Node::new(alloc, schemas, source)?,
             replicas,
@@ -80,7 +79,7 @@ impl World {
         ensures ok { OnOk result (EndsIn self.old self.new) }
         ensures err { OnErr result (Reaches self.old self.new) }
     {
-        loop {
+        'rounds: loop {
             if !self.round()? {
                 return Ok(());
             }
@@ -88,20 +87,20 @@ impl World {
     }
 
     /// One turn of each actor: whether one of them moved.
+    #[tactic(auto, using(crate::proofs::RunLemmas::took_first, crate::proofs::RunLemmas::took_worker, crate::proofs::RunLemmas::took_reaches, crate::proofs::RunLemmas::reaches_none))]
     fn round(&mut self) -> R<bool>
         ensures ok { IfOk result (λ moved. TookTurns self.old self.new (order self.old) moved) }
         ensures err { OnErr result (Reaches self.old self.new) }
     {
-        let mut moved = self.turn(Actor::Tool)?;
         let replicas = self.replicas.len() as u32;
+        let mut moved = self.turn(Actor::Tool)?;
         for place in 0..replicas {
             let actor = Actor::Worker {
                 replica: place + 1,
                 worker: 1,
             };
-            if self.turn(actor)? {
-                moved = true;
-            }
+            let step = self.turn(actor)?;
+            moved = moved | step;
         }
         Ok(moved)
     }
@@ -174,6 +173,7 @@ impl World {
         Ok(())
     }
 
+    #[tactic(auto, using(crate::proofs::RunLemmas::worker_takes))]
     fn worker_turn(&mut self, replica: u32) -> R<bool>
         requires { 1 ≤ replica }
         ensures ok { IfOk result (λ moved. Takes (worker_turn replica self.old) moved self.old self.new) }
@@ -183,12 +183,27 @@ impl World {
         if self.replicas.len() <= place {
             return Ok(false);
         }
-        apply_next(
+        let moved = apply_next(
             self.alloc,
             self.source.history(),
             &mut self.replicas[place],
-        )
+        )?;
+        Ok(moved)
     }
+}
+
+/// A node for each of these tables, which are taken from the front.
+fn fresh_nodes(alloc: Global, schemas: &Schemas, mut copies: Vec<Tables>) -> R<Vec<Node>>
+    requires schemas { AllByRecursion IsSchema schemas.now.tables }
+    requires copies { AllByRecursion (AreTables schemas.now.tables) copies.items }
+    ensures { IfOk result (λ nodes. nodes.items ≡ map (fresh schemas.now.tables) copies.items) }
+{
+    let mut nodes = Vec::new(alloc);
+    while !copies.is_empty() {
+        let start = copies.remove(0);
+        nodes.push(Node::new(alloc, schemas.copy(alloc)?, start)?)?;
+    }
+    Ok(nodes)
 }
 
 /// Applies the log's next entry whole, where there is one.

@@ -1,3 +1,5 @@
 pub mod CheckLemmas
+pub mod DigestLemmas
+pub mod PlaceLemmas
 pub mod ReplayLemmas
 pub mod VerdictLemmas

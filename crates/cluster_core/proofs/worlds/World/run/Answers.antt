@@ -1,0 +1,10 @@
+use Rattle.cluster_core.proofs.RunLemmas.{runs_more, runs_end, reaches_more, on_err_of}
+use Rattle.cluster_core.proofs.worlds.World.run.Goals as goal
+
+pub rounds-preserved : goal.rounds-preserved
+rounds-preserved c =
+    runs_more c.args.self.now c.rounds.self c.round.new.self c.in_ok-round.field-0 c.rounds.invariant c.in_ok-round.ensures.ok
+
+pub returns-in_err-round-clause-err : goal.returns-in_err-round-clause-err
+returns-in_err-round-clause-err c =
+    on_err_of c.from_residual.result (reaches_more c.args.self.now c.rounds.self c.round.new.self c.rounds.invariant.turns c.in_err-round.ensures.err)
