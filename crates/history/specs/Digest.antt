@@ -1,5 +1,5 @@
 -- The rows of a span, and the checksum of rows.
-use Rattle.std.specs.Prelude.{ℕ, ◌<◌, ◌≤◌, ◌^◌, List, [], ◌∷◌, ◌++◌, length, take, filter, replicate, bit_xor}
+use Rattle.std.specs.Prelude.{FitsSigned, ℕ, ◌<◌, ◌≤◌, ◌^◌, List, [], ◌∷◌, ◌++◌, length, take, filter, replicate, bit_xor}
 use Rattle.std.specs.List.{AllByRecursion, flat_map}
 use Rattle.std.specs.Int.{w64, cast_unsigned}
 use Rattle.byteorder.specs.Endian.{big_bytes}
@@ -67,3 +67,9 @@ crc_text Sha1 digest = encode_lower digest.xor
 pub record IsCheckable (schema : Schema) (row : List Value) : Type 0 where
   pub key : schema.key_len ≤ length row
   pub encodable : IsEncodable row
+
+-- a number of 64 bits
+abbrev pub ValueIsInRange : Value → Type 0
+ValueIsInRange Null = Unit {0}
+ValueIsInRange (Int n) = FitsSigned w64 n
+ValueIsInRange (Text text) = Unit {0}

@@ -3,11 +3,13 @@
 #![tactic(auto)]
 
 pub mod checks;
+pub mod digest_laws;
 pub mod entries;
 pub mod laws;
 pub mod row_digest;
 
 pub use checks::{CheckEntry, CheckRow, Checks, Verdict};
+pub use digest_laws::encodings_tell_rows_apart;
 pub use entries::{Entries, Entry, Origin};
 pub use row_digest::{add, crc_text, digest_rows, encode};
 
