@@ -1,5 +1,5 @@
 -- The replay of statements: the tables and check rows that a log or a history leaves.
-use Rattle.std.specs.Prelude.{ℕ, ◌≡◌, ◌+◌, ◌==◌, Bool, false, cond, List, [], ◌∷◌, ◌++◌, Option, None, Some, take, slice_index_or, slice_set, length}
+use Rattle.std.specs.Prelude.{ℕ, ◌≡◌, ◌+◌, ◌==◌, Bool, false, cond, List, [], ◌∷◌, None, Some, take, slice_index_or, slice_set}
 use Rattle.std.specs.List.{slice_get}
 use Rattle.std.specs.Option.{option_map_or}
 use Rattle.row_types.specs.declared.values.Value.{Value}

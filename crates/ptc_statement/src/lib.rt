@@ -4,3 +4,6 @@
 pub mod statements;
 
 pub use statements::{Statement, Statements};
+
+#[cfg(test)]
+mod tests;

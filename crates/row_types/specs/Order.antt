@@ -1,5 +1,5 @@
 -- The orders of values, keys and edges, and the keys of a span.
-use Rattle.std.specs.Prelude.{ℕ, List, Bool, ◌&&◌}
+use Rattle.std.specs.Prelude.{List, Bool, ◌&&◌}
 use Rattle.std.specs.Ordering.{nat_cmp, int_cmp, is_le, ordering_then}
 use Rattle.std.specs.Cmp.Lexicographic.{slice_cmp}
 use Rattle.std.specs.declared.cmp.Ordering.{Ordering}

@@ -18,3 +18,6 @@ pub use memory::{Memory, R};
 pub use table_rows::{Row, Rows, Tables};
 pub use table_schema::{Column, ColumnKind, Columns, Schema, SchemaList, Schemas};
 pub use values::Value;
+
+#[cfg(test)]
+mod tests;
