@@ -1,2 +1,5 @@
+pub mod EachLemmas
+pub mod HeadlineLemmas
+pub mod MasterLemmas
 pub mod NodeLemmas
 pub mod RunLemmas

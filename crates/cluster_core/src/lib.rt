@@ -2,6 +2,7 @@
 #![tactic(auto)]
 
 pub mod actors;
+pub mod laws;
 pub mod nodes;
 pub mod workload;
 pub mod worlds;

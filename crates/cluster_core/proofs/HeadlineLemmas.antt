@@ -1,0 +1,399 @@
+-- What holds after each turn of a run, and so of the report at its end.
+use Rattle.std.proofs.Common.{◌≡◌, ◌≢◌, ◌⊎◌, ℕ, zero, suc, ◌+◌, ◌-◌, ◌≤◌, ◌==◌, Bool, true, false, cond, List, [], ◌∷◌, ◌++◌, length, map, Option, None, Some, option_map, IfSome, refl, ap, ◌∙◌, sym, subst, arith, append_assoc, length-append, nat_lt}
+use Rattle.std.specs.Prelude.{slice_set, unwrap_or, option_and_then}
+use Rattle.std.specs.List.{AllByRecursion, slice_get}
+use Rattle.row_types.specs.declared.values.Value.{Value}
+use Rattle.row_types.specs.declared.digests.Digest.{Digest}
+use Rattle.row_types.specs.declared.digests.DigestKind.TheVariants.{Md5}
+use Rattle.row_types.specs.declared.table_schema.Schema.{Schema}
+use Rattle.ptc_statement.specs.declared.statements.Statement.{Statement}
+use Rattle.ptc_statement.specs.declared.statements.Statement.TheVariants.{Check as CheckStatement, SetMaster, ClearChecks}
+use Rattle.history.specs.declared.entries.Entry.{Entry}
+use Rattle.history.specs.declared.checks.CheckRow.{CheckRow}
+use Rattle.history.specs.declared.checks.CheckEntry.{CheckEntry}
+use Rattle.history.specs.declared.checks.Verdict.TheVariants.{Pending}
+use Rattle.history.specs.Checks.{check_at}
+use Rattle.history.specs.Replay.{Replayed, checks_after, fold, applied_of, applying, chunk_rows, source_at, replica_at, Follows}
+use Rattle.history.specs.Headline.{IsTrueMaster, MastersAreTrue, Compares, IsVerdict}
+use Rattle.history.proofs.ReplayLemmas.{fold_more, masters_more, follows_more, follows_longer_log, follows_length, applied_of-follows}
+use Rattle.history.proofs.VerdictLemmas.{each_verdict}
+use Rattle.cluster_core.specs.Node.{NodeView, replayed_of, logged}
+use Rattle.cluster_core.specs.World.{WorldView, fresh, begun, by_tool, whole_table, tool_logged, published, next_phase, tool_turn_in, next_applied, worker_turn, turn, after, after_turns, workers_from, order, round, rounds, IsStill, EndsIn}
+use Rattle.cluster_core.specs.Report.{VerdictLine, verdict_line, all_chunks, replica_verdicts, verdicts_from, verdicts_of}
+use Rattle.cluster_core.specs.Headline.{LineHolds, AppliedAll, RunHolds}
+use Rattle.cluster_core.specs.Workload.{IsWorkload}
+use Rattle.cluster_core.specs.declared.workload.Workload.{Workload}
+use Rattle.cluster_core.specs.declared.actors.Actor.{Actor}
+use Rattle.cluster_core.specs.declared.actors.Actor.TheVariants.{Tool, Worker}
+use Rattle.cluster_core.specs.declared.actors.ToolPhase.{ToolPhase}
+use Rattle.cluster_core.specs.declared.actors.ToolPhase.TheVariants.{Clear, Check, Master, Finished}
+use Rattle.cluster_core.proofs.EachLemmas.{each_more, each_append, each_at, each_set, each_map, each_always, map_set_same, map_back, slice_get_none, slice_get_after}
+use Rattle.cluster_core.proofs.MasterLemmas.{IsMastered, AllMastered, SameMasters, OthersMastered, PhaseHolds, IsThere, none_mastered, cleared_mastered, checked_mastered, mastered_mastered, same_masters, mastered_there, each_placed, mastered_known}
+
+-- a replica follows the log, over the source's schemas
+pub record ReplicaHolds (schemas : List Schema) (log : List Entry) (node : NodeView) : Type 0 where
+  pub schemas_are : node.schemas ≡ schemas
+  pub follows : Follows log node.history
+
+-- what holds of the world after each turn
+pub record Holds (workload : Workload) (w : WorldView) : Type 0 where
+  pub schemas : w.source.schemas ≡ workload.schemas.tables
+  pub source_start : w.source.start ≡ workload.source
+  pub replica_starts : map (λ (node : NodeView). node.start) w.replicas ≡ workload.copies
+  pub replicas : AllByRecursion (ReplicaHolds workload.schemas.tables w.source.history) w.replicas
+  pub masters : MastersAreTrue w.source.schemas w.source.start w.source.history
+  pub phase : PhaseHolds w.phase (replayed_of w.source).checks
+
+pub begun_holds : (workload : Workload) → Holds workload (begun workload)
+begun_holds workload = record {
+  schemas = refl;
+  source_start = refl;
+  replica_starts = map_back (fresh workload.schemas.tables) (λ (node : NodeView). node.start) workload.copies (λ start. refl);
+  replicas = each_map (fresh workload.schemas.tables) (ReplicaHolds workload.schemas.tables []) workload.copies
+      (each_always (λ (start : List (List (List Value))). ReplicaHolds workload.schemas.tables [] (fresh workload.schemas.tables start)) workload.copies
+      (λ start. record { schemas_are = refl; follows = tt }));
+  masters = tt;
+  phase = none_mastered;
+}
+
+-- the check rows of a node after the tool's statement
+logged_checks : (node : NodeView) (statement : Statement)
+    → (replayed_of (logged node (by_tool statement))).checks ≡ checks_after node.schemas (length node.history + 1) statement (replayed_of node)
+logged_checks node statement = ap (λ (x : Replayed). x.checks) (fold_more node.schemas node.start node.history (by_tool statement))
+
+-- the tool logged a statement
+logged_holds : (workload : Workload) (w : WorldView) (statement : Statement) (next : ToolPhase)
+    → Holds workload w
+    → IsTrueMaster statement (replayed_of w.source)
+    → PhaseHolds next (checks_after w.source.schemas (length w.source.history + 1) statement (replayed_of w.source))
+    → Holds workload (tool_logged statement next w)
+logged_holds workload w statement next before true_one checks = record {
+  schemas = before.schemas;
+  source_start = before.source_start;
+  replica_starts = before.replica_starts;
+  replicas = each_more
+      (ReplicaHolds workload.schemas.tables w.source.history)
+      (ReplicaHolds workload.schemas.tables (w.source.history ++ by_tool statement ∷ []))
+      w.replicas
+      (λ node holds. record {
+        schemas_are = holds.schemas_are;
+        follows = follows_longer_log w.source.history (by_tool statement ∷ []) node.history holds.follows;
+      })
+      before.replicas;
+  masters = masters_more w.source.schemas w.source.start w.source.history (by_tool statement) statement before.masters refl true_one;
+  phase = subst (PhaseHolds next) (sym (logged_checks w.source statement)) checks;
+}
+
+next_phase_holds : (table : ℕ) (w : WorldView) (checks : List CheckEntry) → AllMastered checks → PhaseHolds (next_phase table w) checks
+next_phase_holds table w checks all =
+    elim (nat_lt (table + 1) (length w.source.schemas)) as (λ b. PhaseHolds (cond b (Clear (table + 1)) Finished) checks) [
+      | true ↦ all
+      | false ↦ all
+    ]
+
+published_holds : (workload : Workload) (table : ℕ) (row : Option CheckRow) (w v : WorldView)
+    → check_at table 1 (replayed_of w.source).checks ≡ row
+    → OthersMastered table (replayed_of w.source).checks
+    → Holds workload w
+    → published table row w ≡ Some v
+    → Holds workload v
+published_holds workload table None w v stands others before is = absurd (cc)
+published_holds workload table (Some row) w v stands others before is =
+    let same : tool_logged (SetMaster table 1 row.kind row.this) (next_phase table w) w ≡ v = cc in
+    subst (Holds workload) same
+    (logged_holds workload w (SetMaster table 1 row.kind row.this) (next_phase table w) before (row, stands, refl, refl)
+    (next_phase_holds table w (checks_after w.source.schemas (length w.source.history + 1) (SetMaster table 1 row.kind row.this) (replayed_of w.source))
+    (mastered_mastered table row.this (replayed_of w.source).checks others)))
+
+tool_holds : (workload : Workload) (phase : ToolPhase) (w v : WorldView)
+    → PhaseHolds phase (replayed_of w.source).checks
+    → Holds workload w
+    → tool_turn_in phase w ≡ Some v
+    → Holds workload v
+tool_holds workload (Clear table) w v rows before is =
+    let same : tool_logged (ClearChecks table) (Check table) w ≡ v = cc in
+    subst (Holds workload) same
+    (logged_holds workload w (ClearChecks table) (Check table) before tt (cleared_mastered table (replayed_of w.source).checks rows))
+tool_holds workload (Check table) w v rows before is =
+    let same : tool_logged (CheckStatement table 1 whole_table Md5) (Master table) w ≡ v = cc in
+    subst (Holds workload) same
+    (logged_holds workload w (CheckStatement table 1 whole_table Md5) (Master table) before tt (checked_mastered table _ (replayed_of w.source).checks rows))
+tool_holds workload (Master table) w v rows before is =
+    published_holds workload table (check_at table 1 (replayed_of w.source).checks) w v refl rows.1 before is
+tool_holds workload Finished w v rows before is = absurd (cc)
+
+-- a replica after it applied the next entry
+pub record Applies (schemas : List Schema) (log : List Entry) (node new : NodeView) : Type 0 where
+  pub holds : ReplicaHolds schemas log new
+  pub start : new.start ≡ node.start
+
+applied_holds_at : (schemas : List Schema) (log : List Entry) (node new : NodeView) (next : Option Entry)
+    → slice_get log (applied_of node.history) ≡ next
+    → ReplicaHolds schemas log node
+    → option_and_then (λ entry. Some (logged node (applying (applied_of node.history + 1) entry))) next ≡ Some new
+    → Applies schemas log node new
+applied_holds_at schemas log node new None found before is = absurd (cc)
+applied_holds_at schemas log node new (Some entry) found before is =
+    let same : logged node (applying (applied_of node.history + 1) entry) ≡ new = cc in
+    let many : applied_of node.history ≡ length node.history = applied_of-follows log node.history before.follows in
+    let follows : Follows log (node.history ++ applying (applied_of node.history + 1) entry ∷ []) =
+    subst (λ n. Follows log (node.history ++ applying (n + 1) entry ∷ [])) (sym many)
+    (follows_more log node.history entry before.follows (subst (λ n. slice_get log n ≡ Some entry) many found)) in
+    subst (Applies schemas log node) same (record {
+      holds = record { schemas_are = before.schemas_are; follows = follows };
+      start = refl;
+    })
+
+applied_holds : (schemas : List Schema) (log : List Entry) (node new : NodeView)
+    → ReplicaHolds schemas log node → next_applied log node ≡ Some new → Applies schemas log node new
+applied_holds schemas log node new before is = applied_holds_at schemas log node new (slice_get log (applied_of node.history)) refl before is
+
+moved_holds : (workload : Workload) (w v : WorldView) (place : ℕ) (node : NodeView) (next : Option NodeView)
+    → slice_get w.replicas place ≡ Some node
+    → next_applied w.source.history node ≡ next
+    → Holds workload w
+    → option_and_then (λ (moved : NodeView). Some (record w { replicas = slice_set w.replicas place moved })) next ≡ Some v
+    → Holds workload v
+moved_holds workload w v place node None found applied before is = absurd (cc)
+moved_holds workload w v place node (Some new) found applied before is =
+    let same : record w { replicas = slice_set w.replicas place new } ≡ v = cc in
+    let now = applied_holds workload.schemas.tables w.source.history node new
+    (each_at (ReplicaHolds workload.schemas.tables w.source.history) w.replicas place node before.replicas found) applied in
+    subst (Holds workload) same (record {
+      schemas = before.schemas;
+      source_start = before.source_start;
+      replica_starts = map_set_same (λ (n : NodeView). n.start) w.replicas place node new found now.start ∙ before.replica_starts;
+      replicas = each_set (ReplicaHolds workload.schemas.tables w.source.history) w.replicas place new before.replicas now.holds;
+      masters = before.masters;
+      phase = before.phase;
+    })
+
+worker_holds_at : (workload : Workload) (w v : WorldView) (place : ℕ) (node : Option NodeView)
+    → slice_get w.replicas place ≡ node
+    → Holds workload w
+    → option_and_then (λ n. option_and_then (λ (moved : NodeView). Some (record w { replicas = slice_set w.replicas place moved })) (next_applied w.source.history n)) node ≡ Some v
+    → Holds workload v
+worker_holds_at workload w v place None found before is = absurd (cc)
+worker_holds_at workload w v place (Some node) found before is =
+    moved_holds workload w v place node (next_applied w.source.history node) found refl before is
+
+worker_holds : (workload : Workload) (replica : ℕ) (w v : WorldView) → Holds workload w → worker_turn replica w ≡ Some v → Holds workload v
+worker_holds workload replica w v before is =
+    worker_holds_at workload w v (replica - 1) (slice_get w.replicas (replica - 1)) refl before is
+
+seat_holds : (workload : Workload) (first : Bool) (replica : ℕ) (w v : WorldView) → Holds workload w → cond first (worker_turn replica w) None ≡ Some v → Holds workload v
+seat_holds workload true replica w v before is = worker_holds workload replica w v before is
+seat_holds workload false replica w v before is = absurd (cc)
+
+pub turn_holds : (workload : Workload) (actor : Actor) (w v : WorldView) → Holds workload w → turn actor w ≡ Some v → Holds workload v
+turn_holds workload Tool w v before is = tool_holds workload w.phase w v before.phase before is
+turn_holds workload (Worker replica worker) w v before is = seat_holds workload (worker == 1) replica w v before is
+
+after_holds_at : (workload : Workload) (actor : Actor) (w : WorldView) (next : Option WorldView) → turn actor w ≡ next → Holds workload w → Holds workload (unwrap_or next w)
+after_holds_at workload actor w None is before = before
+after_holds_at workload actor w (Some v) is before = turn_holds workload actor w v before is
+
+after_turns_hold : (workload : Workload) (actors : List Actor) (w : WorldView) → Holds workload w → Holds workload (after_turns actors w)
+after_turns_hold workload [] w before = before
+after_turns_hold workload (actor ∷ actors) w before =
+    after_turns_hold workload actors (after actor w) (after_holds_at workload actor w (turn actor w) refl before)
+
+rounds_hold : (workload : Workload) (count : ℕ) (w : WorldView) → Holds workload w → Holds workload (rounds count w)
+rounds_hold workload zero w before = before
+rounds_hold workload (suc count) w before = rounds_hold workload count (round w) (after_turns_hold workload (order w) w before)
+
+-- where the tool can't move, it is through all tables
+pub record ToolEnded (phase : ToolPhase) (checks : List CheckEntry) : Type 0 where
+  pub finished : phase ≡ Finished
+  pub mastered : AllMastered checks
+
+published_still : (table : ℕ) (row : Option CheckRow) (w : WorldView) → IsThere row → published table row w ≡ None → ⊥
+published_still table None w there is = (let no : None ≡ Some there.0 = there.1 in cc)
+published_still table (Some row) w there is = cc
+
+tool_ended : (phase : ToolPhase) (w : WorldView) → PhaseHolds phase (replayed_of w.source).checks → tool_turn_in phase w ≡ None → ToolEnded phase (replayed_of w.source).checks
+tool_ended (Clear table) w rows is = absurd (cc)
+tool_ended (Check table) w rows is = absurd (cc)
+tool_ended (Master table) w rows is = absurd (published_still table (check_at table 1 (replayed_of w.source).checks) w rows.0 is)
+tool_ended Finished w rows is = record { finished = refl; mastered = rows }
+
+-- where a replica's worker can't move, it applied the whole log
+next_still : (log : List Entry) (node : NodeView) (next : Option Entry)
+    → option_and_then (λ entry. Some (logged node (applying (applied_of node.history + 1) entry))) next ≡ None → next ≡ None
+next_still log node None is = refl
+next_still log node (Some entry) is = absurd (cc)
+
+moved_still : (w : WorldView) (place : ℕ) (next : Option NodeView)
+    → option_and_then (λ (moved : NodeView). Some (record w { replicas = slice_set w.replicas place moved })) next ≡ None → next ≡ None
+moved_still w place None is = refl
+moved_still w place (Some new) is = absurd (cc)
+
+replica_ended : (w : WorldView) (schemas : List Schema) (replica : ℕ) (node : NodeView)
+    → slice_get w.replicas (replica - 1) ≡ Some node
+    → ReplicaHolds schemas w.source.history node
+    → worker_turn replica w ≡ None
+    → AppliedAll w.source.history node
+replica_ended w schemas replica node found holds is =
+    let at : option_and_then (λ (moved : NodeView). Some (record w { replicas = slice_set w.replicas (replica - 1) moved })) (next_applied w.source.history node) ≡ None =
+    ap (option_and_then (λ n. option_and_then (λ (moved : NodeView). Some (record w { replicas = slice_set w.replicas (replica - 1) moved })) (next_applied w.source.history n))) (sym found) ∙ is in
+    let next : next_applied w.source.history node ≡ None = moved_still w (replica - 1) (next_applied w.source.history node) at in
+    let past : slice_get w.source.history (applied_of node.history) ≡ None = next_still w.source.history node (slice_get w.source.history (applied_of node.history)) next in
+    let least : length w.source.history ≤ applied_of node.history = slice_get_none w.source.history (applied_of node.history) past in
+    let many : applied_of node.history ≡ length node.history = applied_of-follows w.source.history node.history holds.follows in
+    let most : length node.history ≤ length w.source.history = follows_length w.source.history node.history holds.follows in
+    record { follows = holds.follows; all = omega arith }
+
+-- a replica at the end of a run, at its place
+pub record Ended (schemas : List Schema) (log : List Entry) (node : NodeView) : Type 0 where
+  pub schemas_are : node.schemas ≡ schemas
+  pub applied : AppliedAll log node
+
+-- the last replicas of a world, of which the first has this number
+pub record LastFrom (w : WorldView) (number : ℕ) (nodes : List NodeView) : Type 0 where
+  pub front : List NodeView
+  pub counted : length front + 1 ≡ number
+  pub all : w.replicas ≡ front ++ nodes
+
+last_all : (w : WorldView) → LastFrom w 1 w.replicas
+last_all w = record { front = []; counted = omega arith; all = refl }
+
+last_first : (w : WorldView) (number : ℕ) (node : NodeView) (nodes : List NodeView) → LastFrom w number (node ∷ nodes) → slice_get w.replicas (number - 1) ≡ Some node
+last_first w number node nodes last =
+    let at : number - 1 ≡ length last.front = omega (arith, last.counted) in
+    ap (λ n. slice_get w.replicas n) at ∙ ap (λ (xs : List NodeView). slice_get xs (length last.front)) last.all ∙ slice_get_after last.front node nodes
+
+last_more : (w : WorldView) (number : ℕ) (node : NodeView) (nodes : List NodeView) → LastFrom w number (node ∷ nodes) → LastFrom w (number + 1) nodes
+last_more w number node nodes last = record {
+  front = last.front ++ node ∷ [];
+  counted = omega (arith, length-append last.front (node ∷ []), last.counted);
+  all = last.all ∙ sym (append_assoc last.front (node ∷ []) nodes);
+}
+
+replicas_ended : (w : WorldView) (schemas : List Schema) (number : ℕ) (nodes : List NodeView)
+    → LastFrom w number nodes
+    → AllByRecursion (ReplicaHolds schemas w.source.history) nodes
+    → AllByRecursion (λ actor. turn actor w ≡ None) (workers_from number nodes)
+    → AllByRecursion (Ended schemas w.source.history) nodes
+replicas_ended w schemas number [] last holds still = tt
+replicas_ended w schemas number (node ∷ nodes) last holds still = (
+  record {
+    schemas_are = holds.0.schemas_are;
+    applied = replica_ended w schemas number node (last_first w number node nodes last) holds.0 still.0;
+  },
+  replicas_ended w schemas (number + 1) nodes (last_more w number node nodes last) holds.1 still.1,
+)
+
+-- a line that is known, and compares what it says that it does
+pub record LineIsKnown (w : WorldView) (line : VerdictLine) : Type 0 where
+  pub known : line.verdict ≢ Pending
+  pub holds : LineHolds w line
+
+counted : (master : Option Digest) (count : ℕ) → (m : Digest) × (master ≡ Some m) → IfSome master (λ m. m.count ≡ count) → option_map (λ (m : Digest). m.count) master ≡ Some count
+counted None count known is = absurd (let no : None ≡ Some known.0 = known.1 in cc)
+counted (Some m) count known is = ap Some is
+
+-- a mastered row of a replica, as a line
+row_line_known : (w : WorldView) (number : ℕ) (node : NodeView) (entry : CheckEntry) (row : CheckRow)
+    → slice_get w.replicas (number - 1) ≡ Some node
+    → node.schemas ≡ w.source.schemas
+    → IsMastered row
+    → IsVerdict w.source.schemas w.source.start w.source.history node.start node.history entry.table entry.chunk row
+    → LineIsKnown w (verdict_line number entry (Some row))
+row_line_known w number node entry row found same mastered is =
+    let source_rows : List (List Value) = chunk_rows w.source.schemas (source_at w.source.schemas w.source.start w.source.history row.position).tables entry.table row.span in
+    let compares : Compares row source_rows (chunk_rows node.schemas (replica_at node.schemas node.start node.history row.position).tables entry.table row.span) =
+    subst (λ (s : List Schema). Compares row source_rows (chunk_rows s (replica_at s node.start node.history row.position).tables entry.table row.span)) (sym same) is.compares in
+    record {
+      known = mastered_known row mastered;
+      holds = record {
+        node = node;
+        found = found;
+        kind = row.kind;
+        from_one = is.from_one;
+        in_log = is.in_log;
+        checked = is.checked;
+        compares = record {
+          master_count = counted row.master (length source_rows) mastered compares.master_count;
+          own_count = ap Some compares.own_count;
+          differ = compares.differ;
+          rows_differ = compares.rows_differ;
+          rows_same = compares.rows_same;
+        };
+      };
+    }
+
+-- a chunk of a replica at the end of a run
+chunk_line_known : (w : WorldView) (number : ℕ) (node : NodeView) (entry : CheckEntry)
+    → slice_get w.replicas (number - 1) ≡ Some node
+    → MastersAreTrue w.source.schemas w.source.start w.source.history
+    → AllMastered (replayed_of w.source).checks
+    → Ended w.source.schemas w.source.history node
+    → IsThere (check_at entry.table entry.chunk (replayed_of node).checks) ⊎ IsThere (check_at entry.table entry.chunk (replayed_of w.source).checks)
+    → LineIsKnown w (verdict_line number entry (check_at entry.table entry.chunk (replayed_of node).checks))
+chunk_line_known w number node entry found masters mastered ended there =
+    let one : SameMasters (replayed_of w.source).checks (fold w.source.schemas node.start node.history).checks =
+    same_masters w.source.schemas w.source.start node.start w.source.history node.history ended.applied.follows ended.applied.all in
+    let same : SameMasters (replayed_of w.source).checks (replayed_of node).checks =
+    subst (λ (s : List Schema). SameMasters (replayed_of w.source).checks (fold s node.start node.history).checks) (sym ended.schemas_are) one in
+    let here = mastered_there
+    (check_at entry.table entry.chunk (replayed_of w.source).checks)
+    (check_at entry.table entry.chunk (replayed_of node).checks)
+    (same entry.table entry.chunk) (mastered entry.table entry.chunk) there in
+    let row : CheckRow = here.0 in
+    let stands : check_at entry.table entry.chunk (fold w.source.schemas node.start node.history).checks ≡ Some row =
+    subst (λ (s : List Schema). check_at entry.table entry.chunk (fold s node.start node.history).checks ≡ Some row) ended.schemas_are here.1 in
+    subst (λ (o : Option CheckRow). LineIsKnown w (verdict_line number entry o)) (sym here.1)
+    (row_line_known w number node entry row found ended.schemas_are here.2
+    (each_verdict w.source.schemas w.source.start node.start w.source.history node.history masters ended.applied.follows entry.table entry.chunk row stands (mastered_known row here.2)))
+
+node_lines_known : (w : WorldView) (number : ℕ) (node : NodeView)
+    → slice_get w.replicas (number - 1) ≡ Some node
+    → MastersAreTrue w.source.schemas w.source.start w.source.history
+    → AllMastered (replayed_of w.source).checks
+    → Ended w.source.schemas w.source.history node
+    → AllByRecursion (LineIsKnown w) (replica_verdicts number (replayed_of w.source).checks (replayed_of node).checks)
+node_lines_known w number node found masters mastered ended =
+    let own : List CheckEntry = (replayed_of node).checks in
+    let source : List CheckEntry = (replayed_of w.source).checks in
+    each_map (λ (entry : CheckEntry). verdict_line number entry (check_at entry.table entry.chunk own)) (LineIsKnown w) (all_chunks own source)
+    (each_more
+    (λ (entry : CheckEntry). IsThere (check_at entry.table entry.chunk own) ⊎ IsThere (check_at entry.table entry.chunk source))
+    (λ (entry : CheckEntry). LineIsKnown w (verdict_line number entry (check_at entry.table entry.chunk own)))
+    (all_chunks own source)
+    (λ entry there. chunk_line_known w number node entry found masters mastered ended there)
+    (each_placed own source))
+
+lines_known : (w : WorldView) (number : ℕ) (nodes : List NodeView)
+    → LastFrom w number nodes
+    → MastersAreTrue w.source.schemas w.source.start w.source.history
+    → AllMastered (replayed_of w.source).checks
+    → AllByRecursion (Ended w.source.schemas w.source.history) nodes
+    → AllByRecursion (LineIsKnown w) (verdicts_from number (replayed_of w.source).checks nodes)
+lines_known w number [] last masters mastered ended = tt
+lines_known w number (node ∷ nodes) last masters mastered ended =
+    each_append (LineIsKnown w) (replica_verdicts number (replayed_of w.source).checks (replayed_of node).checks) (verdicts_from (number + 1) (replayed_of w.source).checks nodes)
+    (node_lines_known w number node (last_first w number node nodes last) masters mastered ended.0)
+    (lines_known w (number + 1) nodes (last_more w number node nodes last) masters mastered ended.1)
+
+ended_holds : (workload : Workload) (w : WorldView) → Holds workload w → IsStill w → RunHolds workload w
+ended_holds workload w holds still =
+    let tool = tool_ended w.phase w holds.phase still.0 in
+    let replicas = replicas_ended w workload.schemas.tables 1 w.replicas (last_all w) holds.replicas still.1 in
+    let nodes : AllByRecursion (Ended w.source.schemas w.source.history) w.replicas =
+    subst (λ (s : List Schema). AllByRecursion (Ended s w.source.history) w.replicas) (sym holds.schemas) replicas in
+    let lines = lines_known w 1 w.replicas (last_all w) holds.masters tool.mastered nodes in
+    record {
+      schemas = holds.schemas;
+      source_start = holds.source_start;
+      replica_starts = holds.replica_starts;
+      replica_schemas = each_more (Ended workload.schemas.tables w.source.history) (λ (node : NodeView). node.schemas ≡ workload.schemas.tables) w.replicas (λ node ended. ended.schemas_are) replicas;
+      masters = holds.masters;
+      histories = each_more (Ended workload.schemas.tables w.source.history) (AppliedAll w.source.history) w.replicas (λ node ended. ended.applied) replicas;
+      finished = tool.finished;
+      none_pending = each_more (LineIsKnown w) (λ (line : VerdictLine). line.verdict ≢ Pending) (verdicts_of w) (λ line is. is.known) lines;
+      verdicts = each_more (LineIsKnown w) (LineHolds w) (verdicts_of w) (λ line is. is.holds) lines;
+    }
+
+pub each_run : (workload : Workload) (last : WorldView) → IsWorkload workload → EndsIn (begun workload) last → RunHolds workload last
+each_run workload last is ends =
+    ended_holds workload last (subst (Holds workload) (sym ends.reached) (rounds_hold workload ends.count (begun workload) (begun_holds workload))) ends.still
