@@ -2,6 +2,7 @@
 #![tactic(auto)]
 
 pub mod actors;
+mod texts;
 pub mod workload;
 
 pub use actors::{Actor, ToolPhase};
