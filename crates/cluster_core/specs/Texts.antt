@@ -8,6 +8,7 @@ use Rattle.row_types.specs.declared.values.Value.TheVariants.{Null, Int, Text}
 use Rattle.row_types.specs.declared.edges.Edge.{Edge}
 use Rattle.row_types.specs.declared.edges.Edge.TheVariants.{Low, Before, After, High}
 use Rattle.row_types.specs.declared.edges.Span.{Span}
+use Rattle.row_types.specs.declared.digests.Digest.{Digest}
 use Rattle.row_types.specs.declared.digests.DigestKind.{DigestKind}
 use Rattle.row_types.specs.declared.digests.DigestKind.TheVariants.{Md5, Sha1}
 use Rattle.row_types.specs.declared.table_schema.ColumnKind.{ColumnKind}
@@ -84,9 +85,16 @@ digest_kind_text Sha1 = codes "SHA1"
 unfoldable pub chunk_text : List Schema → ℕ → ℕ → List ℕ
 chunk_text schemas table chunk = name_of schemas table ++ codes " CHUNK " ++ decimal chunk
 
+-- what a CHECKSUM sums, and how
+unfoldable pub summed_text : Span → DigestKind → List ℕ
+summed_text span kind = codes " " ++ span_text span ++ codes " USING " ++ digest_kind_text kind
+
+-- the source's checksum in a SETMASTER
+unfoldable pub master_text : DigestKind → Digest → List ℕ
+master_text kind master = codes " CNT " ++ decimal master.count ++ codes " CRC '" ++ crc_text kind master ++ codes "'"
+
 unfoldable pub statement_text : List Schema → Statement → List ℕ
-statement_text schemas (Check table chunk span kind) =
-    codes "CHECKSUM " ++ chunk_text schemas table chunk ++ codes " " ++ span_text span ++ codes " USING " ++ digest_kind_text kind
+statement_text schemas (Check table chunk span kind) = codes "CHECKSUM " ++ chunk_text schemas table chunk ++ summed_text span kind
 statement_text schemas (SetMaster table chunk kind master) =
-    codes "SETMASTER " ++ chunk_text schemas table chunk ++ codes " CNT " ++ decimal master.count ++ codes " CRC '" ++ crc_text kind master ++ codes "'"
+    codes "SETMASTER " ++ chunk_text schemas table chunk ++ master_text kind master
 statement_text schemas (ClearChecks table) = codes "CLEARCHECKS " ++ name_of schemas table

@@ -2,8 +2,11 @@
 #![tactic(auto)]
 
 pub mod actors;
+mod report;
+pub mod report_verdicts;
 mod texts;
 pub mod workload;
 
 pub use actors::{Actor, ToolPhase};
+pub use report_verdicts::VerdictLine;
 pub use workload::{Copies, Workload};

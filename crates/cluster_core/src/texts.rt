@@ -82,7 +82,6 @@ fn push_later_columns(
     key_len: usize,
     columns: &[Column],
 ) -> R<()>
-    requires { length columns.now < 2 ^ 63 }
     ensures { OnOk result (out.new.items ≡ out.old.items ++ columns_on key_len 1 columns.now) }
 {
     for (index, column) in columns.iter().enumerate() {
@@ -93,7 +92,6 @@ fn push_later_columns(
 }
 
 fn push_columns(alloc: Global, out: &mut Vec<u8>, key_len: usize, columns: &[Column]) -> R<()>
-    requires { length columns.now < 2 ^ 63 }
     ensures { OnOk result (out.new.items ≡ out.old.items ++ columns_text key_len columns.now) }
 {
     match columns.split_first() {
