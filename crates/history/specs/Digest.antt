@@ -1,5 +1,5 @@
 -- The rows of a span, and the checksum of rows.
-use Rattle.std.specs.Prelude.{ℕ, ◌<◌, ◌+◌, ◌^◌, Bool, List, [], ◌∷◌, ◌++◌, length, take, filter, replicate, bit_xor}
+use Rattle.std.specs.Prelude.{ℕ, ◌<◌, ◌≤◌, ◌^◌, List, [], ◌∷◌, ◌++◌, length, take, filter, replicate, bit_xor}
 use Rattle.std.specs.List.{AllByRecursion, flat_map}
 use Rattle.std.specs.Int.{w64, cast_unsigned}
 use Rattle.byteorder.specs.Endian.{big_bytes}
@@ -62,3 +62,8 @@ digest_of kind rows = record { count = length rows; xor = xor_onto kind (replica
 abbrev pub crc_text : DigestKind → Digest → List ℕ
 crc_text Md5 digest = encode_lower (take 16 digest.xor)
 crc_text Sha1 digest = encode_lower digest.xor
+
+-- a row that has the values of the key, and an encoding
+pub record IsCheckable (schema : Schema) (row : List Value) : Type 0 where
+  pub key : schema.key_len ≤ length row
+  pub encodable : IsEncodable row

@@ -1,6 +1,7 @@
 ghost use Rattle.std.specs.Prelude.{◌≡◌, ◌<◌, ◌≤◌, ◌^◌, ◌↔◌, List, [], ◌∷◌, ◌++◌, ℕ, length, IsTrue, IsSome, IfOk, OnOk, OnErr, None, Some};
-ghost use Rattle.std.specs.Option.{option_copied, option_map};
+ghost use Rattle.std.specs.Option.{option_copied, is_some};
 ghost use Rattle.history.specs.Checks.{check_at, with_check, with_absent, with_master, without_table, last_chunk, verdict_of, verdict_of_row};
+ghost use Rattle.history.specs.Places.{IsFound, IsPlaced};
 
 use row_types::{Digest, DigestKind, R, Span};
 use std::alloc::Global;
@@ -206,4 +207,122 @@ impl Checks {
             Some(row) => row.verdict(),
         }
     }
+}
+
+impl Checks {
+    /// The chunk's row, if there is one.
+    pub fn get(&self, table: u32, chunk: u32) -> Option<&CheckRow>
+        ensures { option_copied result ≡ check_at table chunk self.now }
+    {
+        let entries = self.items.as_slice();
+        match find(entries, table, chunk) {
+            None => None,
+            Some(index) => Some(&entries[index].row),
+        }
+    }
+
+    /// Makes this the chunk's row, in place of an earlier one; a refusal leaves the list as it was.
+    pub fn set(&mut self, table: u32, chunk: u32, row: CheckRow) -> R<()>
+        ensures ok { OnOk result (self.new ≡ with_check table chunk row self.old) }
+        ensures err { OnErr result (self.new ≡ self.old) }
+    {
+        let entry = CheckEntry { table, chunk, row };
+        match place_of(self.items.as_slice(), table, chunk) {
+            Place::Taken(index) => {
+                self.items[index] = entry;
+            }
+            Place::Free(index) => {
+                self.items.insert(index, entry)?;
+            }
+        }
+        Ok(())
+    }
+
+    /// Fills in the source's checksum of a chunk whose row stands, and says whether it does; else it
+    /// changes nothing.
+    pub fn set_master(&mut self, table: u32, chunk: u32, master: Digest) -> bool
+        ensures value { self.new ≡ with_master table chunk master self.old }
+        ensures found { result ≡ is_some (check_at table chunk self.old) }
+    {
+        match find(self.items.as_slice(), table, chunk) {
+            None => false,
+            Some(index) => {
+                self.items[index].row.master = Some(master);
+                true
+            }
+        }
+    }
+
+    /// Forgets the rows of a table.
+    pub fn clear(&mut self, table: u32)
+        ensures { self.new ≡ without_table table self.old }
+    {
+        forget_table(&mut self.items, table);
+    }
+
+    /// The greatest chunk of a table that has a row, 0 where none has.
+    pub fn last_of(&self, table: u32) -> u32
+        ensures { result ≡ last_chunk table self.now }
+    {
+        let mut last = 0;
+        for entry in self.items.as_slice() {
+            if entry.table == table {
+                last = entry.chunk.max(last);
+            }
+        }
+        last
+    }
+
+    /// Puts in the entry where its chunk has no row, else lets it go; a refusal leaves the list as it
+    /// was.
+    pub fn add_absent(&mut self, entry: CheckEntry) -> R<()>
+        ensures ok { OnOk result (self.new ≡ with_absent entry self.old) }
+        ensures err { OnErr result (self.new ≡ self.old) }
+    {
+        match place_of(self.items.as_slice(), entry.table, entry.chunk) {
+            Place::Taken(_) => {}
+            Place::Free(index) => {
+                self.items.insert(index, entry)?;
+            }
+        }
+        Ok(())
+    }
+}
+
+/// Where a chunk's row stands in a list by rising table and chunk, or would stand.
+#[derive(Clone, Copy, Debug, PartialEq, Eq)]
+enum Place {
+    Taken(usize),
+    Free(usize),
+}
+
+/// The index of the chunk's row.
+fn find(entries: &[CheckEntry], table: u32, chunk: u32) -> Option<usize>
+    ensures { IsFound table chunk entries.now result }
+{
+    for (index, entry) in entries.iter().enumerate() {
+        if entry.table == table && entry.chunk == chunk {
+            return Some(index);
+        }
+    }
+    None
+}
+
+fn place_of(entries: &[CheckEntry], table: u32, chunk: u32) -> Place
+    ensures { IsPlaced table chunk entries.now result }
+{
+    for (index, entry) in entries.iter().enumerate() {
+        match table.cmp(&entry.table).then(chunk.cmp(&entry.chunk)) {
+            Ordering::Less => return Place::Free(index),
+            Ordering::Equal => return Place::Taken(index),
+            Ordering::Greater => {}
+        }
+    }
+    Place::Free(entries.len())
+}
+
+fn forget_table(entries: &mut Vec<CheckEntry>, table: u32)
+    ensures { entries.new.items ≡ without_table table entries.old.items }
+{
+    entries.retain(|entry| entry.table != table);
 }
