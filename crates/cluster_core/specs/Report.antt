@@ -1,12 +1,11 @@
 -- The report of a world: its lines, in the order in which they are written.
-use Rattle.std.specs.Prelude.{ℕ, ◌≡◌, ◌+◌, Bool, true, false, cond, List, [], ◌∷◌, ◌++◌, Option, None, Some, codes, map}
+use Rattle.std.specs.Prelude.{ℕ, ◌+◌, Bool, true, false, cond, List, [], ◌∷◌, ◌++◌, Option, None, Some, codes, map}
 use Rattle.std.specs.List.{flat_map, list_any}
 use Rattle.std.specs.Option.{option_map}
 use Rattle.std.specs.Fmt.{decimal}
 use Rattle.std.specs.Ordering.{is_eq}
 use Rattle.std.specs.Cmp.Lexicographic.{slice_cmp}
 use Rattle.row_types.specs.declared.values.Value.{Value}
-use Rattle.row_types.specs.declared.edges.Span.{Span}
 use Rattle.row_types.specs.declared.table_schema.Schema.{Schema}
 use Rattle.row_types.specs.declared.digests.Digest.{Digest}
 use Rattle.row_types.specs.Order.{key_cmp}
@@ -171,9 +170,12 @@ is_differ Same = false
 is_differ Differ = true
 is_differ Pending = false
 
+abbrev pub differs : VerdictLine → Bool
+differs line = is_differ line.verdict
+
 -- 16 where a DIFFER line stands, else 0
 abbrev pub status_of : WorldView → ℕ
-status_of w = cond (list_any (λ (line : VerdictLine). is_differ line.verdict) (verdicts_of w)) 16 0
+status_of w = cond (list_any differs (verdicts_of w)) 16 0
 
 unfoldable pub head_text : List Schema → List ℕ
 head_text schemas = codes "PTC REPORT 1\n" ++ flat_map table_line schemas

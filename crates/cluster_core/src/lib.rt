@@ -3,6 +3,7 @@
 
 pub mod actors;
 mod report;
+pub mod report_laws;
 pub mod report_verdicts;
 mod texts;
 pub mod workload;
@@ -10,3 +11,6 @@ pub mod workload;
 pub use actors::{Actor, ToolPhase};
 pub use report_verdicts::VerdictLine;
 pub use workload::{Copies, Workload};
+
+#[cfg(test)]
+mod report_tests;

@@ -2,12 +2,13 @@
 //! memory a text is incomplete.
 ghost use Rattle.std.specs.Prelude.{◌≡◌, ◌++◌, codes, OnOk};
 ghost use Rattle.std.specs.List.{flat_map};
-ghost use Rattle.cluster_core.specs.Report.{replica_text, row_place_text, row_line, rows_lines, tables_lines, origin_text, item_line, history_lines, equal_line, equal_lines, head_text, status_line};
+ghost use Rattle.cluster_core.specs.Report.{replica_text, row_place_text, row_line, rows_lines, tables_lines, origin_text, statement_line, entry_line, entry_lines, log_lines, item_line, history_lines, equal_line, equal_lines, head_text, status_line};
 ghost use Rattle.cluster_core.specs.Texts.{table_line};
 ghost use Rattle.cluster_core.specs.Report.{rows_equal as rows_equal_in};
 
-use crate::texts::{name_of, push_bytes, push_number, push_table, push_tuple};
+use crate::texts::{name_of, push_bytes, push_number, push_statement, push_table, push_tuple};
 use history::{Entries, Entry, Origin};
+use ptc_statement::{Statement, Statements};
 use row_types::{R, Row, Rows, SchemaList, Tables};
 use std::alloc::Global;
 
@@ -109,6 +110,75 @@ fn push_origin(alloc: Global, out: &mut Vec<u8>, origin: Origin) -> R<()>
             push_number(alloc, out, entry)
         }
     }
+}
+
+#[tactic(auto, unfolding(crate::specs::Report::statement_line))]
+fn push_statement_line(
+    alloc: Global,
+    out: &mut Vec<u8>,
+    schemas: &SchemaList,
+    statement: &Statement,
+) -> R<()>
+    ensures { OnOk result (out.new.items ≡ out.old.items ++ statement_line schemas.now statement.now) }
+{
+    push_bytes(out, b"  ")?;
+    push_statement(alloc, out, schemas, statement)?;
+    push_bytes(out, b"\n")
+}
+
+fn push_statements(
+    alloc: Global,
+    out: &mut Vec<u8>,
+    schemas: &SchemaList,
+    statements: &Statements,
+) -> R<()>
+    ensures { OnOk result (out.new.items ≡ out.old.items ++ flat_map (statement_line schemas.now) statements.now) }
+{
+    for statement in statements.as_slice() {
+        push_statement_line(alloc, out, schemas, statement)?;
+    }
+    Ok(())
+}
+
+#[tactic(auto, unfolding(crate::specs::Report::entry_line))]
+fn push_entry_line(alloc: Global, out: &mut Vec<u8>, number: u64, origin: Origin) -> R<()>
+    ensures { OnOk result (out.new.items ≡ out.old.items ++ entry_line number origin) }
+{
+    push_bytes(out, b"LOG ")?;
+    push_number(alloc, out, number)?;
+    push_bytes(out, b" ")?;
+    push_origin(alloc, out, origin)?;
+    push_bytes(out, b"\n")
+}
+
+/// An entry of the log, and its statements.
+#[tactic(auto, unfolding(crate::specs::Report::entry_lines))]
+fn push_entry(
+    alloc: Global,
+    out: &mut Vec<u8>,
+    schemas: &SchemaList,
+    number: u64,
+    entry: &Entry,
+) -> R<()>
+    ensures { OnOk result (out.new.items ≡ out.old.items ++ entry_lines schemas.now number entry.now) }
+{
+    push_entry_line(alloc, out, number, entry.origin)?;
+    push_statements(alloc, out, schemas, &entry.statements)
+}
+
+/// The entries of the log, numbered from 1.
+pub(crate) fn push_log(
+    alloc: Global,
+    out: &mut Vec<u8>,
+    schemas: &SchemaList,
+    log: &Entries,
+) -> R<()>
+    ensures { OnOk result (out.new.items ≡ out.old.items ++ log_lines schemas.now 1 log.now) }
+{
+    for (index, entry) in log.as_slice().iter().enumerate() {
+        push_entry(alloc, out, schemas, index as u64 + 1, entry)?;
+    }
+    Ok(())
 }
 
 #[tactic(auto, unfolding(crate::specs::Report::item_line))]

@@ -2,10 +2,12 @@
 //! incomplete.
 ghost use Rattle.std.specs.Prelude.{◌≡◌, ◌++◌, ◌<◌, ◌^◌, length, OnOk};
 ghost use Rattle.std.specs.Fmt.{decimal, signed_decimal};
-ghost use Rattle.cluster_core.specs.Texts.{kind_text, column_text, columns_on, columns_text, table_line, quoted, value_text, values_on, values_text, tuple_text, edge_text, span_text, digest_kind_text, chunk_text};
+ghost use Rattle.cluster_core.specs.Texts.{kind_text, column_text, columns_on, columns_text, table_line, quoted, value_text, values_on, values_text, tuple_text, edge_text, span_text, digest_kind_text, chunk_text, summed_text, master_text, clear_word, statement_text};
 ghost use Rattle.cluster_core.specs.Texts.{name_of as name_in};
 
-use row_types::{Column, ColumnKind, DigestKind, Edge, R, Schema, SchemaList, Span, Value};
+use history::crc_text;
+use ptc_statement::Statement;
+use row_types::{Column, ColumnKind, Digest, DigestKind, Edge, R, Schema, SchemaList, Span, Value};
 use std::alloc::Global;
 
 pub(crate) fn push_bytes(out: &mut Vec<u8>, bytes: &[u8]) -> R<()>
@@ -30,6 +32,7 @@ fn push_signed(alloc: Global, out: &mut Vec<u8>, number: i64) -> R<()>
 }
 
 /// The name of the table of this number; empty where there is no such table.
+#[tactic(auto, unfolding(crate::specs::Texts::name_of))]
 pub(crate) fn name_of(schemas: &SchemaList, table: usize) -> &[u8]
     ensures { result.now ≡ name_in schemas.now table }
 {
@@ -37,6 +40,12 @@ pub(crate) fn name_of(schemas: &SchemaList, table: usize) -> &[u8]
         None => &[],
         Some(schema) => schema.name.as_slice(),
     }
+}
+
+pub(crate) fn push_name(out: &mut Vec<u8>, schemas: &SchemaList, table: u32) -> R<()>
+    ensures { OnOk result (out.new.items ≡ out.old.items ++ name_in schemas.now table) }
+{
+    push_bytes(out, name_of(schemas, table as usize))
 }
 
 #[tactic(auto, unfolding(crate::specs::Texts::kind_text))]
@@ -76,12 +85,7 @@ fn push_column(
 }
 
 /// The columns but the first, each after a comma.
-fn push_later_columns(
-    alloc: Global,
-    out: &mut Vec<u8>,
-    key_len: usize,
-    columns: &[Column],
-) -> R<()>
+fn push_later_columns(alloc: Global, out: &mut Vec<u8>, key_len: usize, columns: &[Column]) -> R<()>
     ensures { OnOk result (out.new.items ≡ out.old.items ++ columns_on key_len 1 columns.now) }
 {
     for (index, column) in columns.iter().enumerate() {
@@ -110,7 +114,12 @@ pub(crate) fn push_table(alloc: Global, out: &mut Vec<u8>, schema: &Schema) -> R
     push_bytes(out, b"TABLE ")?;
     push_bytes(out, schema.name.as_slice())?;
     push_bytes(out, b" (")?;
-    push_columns(alloc, out, schema.key_len as usize, schema.columns.as_slice())?;
+    push_columns(
+        alloc,
+        out,
+        schema.key_len as usize,
+        schema.columns.as_slice(),
+    )?;
     push_bytes(out, b")\n")
 }
 
@@ -222,7 +231,73 @@ fn push_chunk(
 ) -> R<()>
     ensures { OnOk result (out.new.items ≡ out.old.items ++ chunk_text schemas.now table chunk) }
 {
-    push_bytes(out, name_of(schemas, table as usize))?;
+    push_name(out, schemas, table)?;
     push_bytes(out, b" CHUNK ")?;
     push_number(alloc, out, chunk as u64)
+}
+
+#[tactic(auto, unfolding(crate::specs::Texts::summed_text))]
+fn push_summed(alloc: Global, out: &mut Vec<u8>, span: &Span, kind: DigestKind) -> R<()>
+    ensures { OnOk result (out.new.items ≡ out.old.items ++ summed_text span.now kind) }
+{
+    push_bytes(out, b" ")?;
+    push_span(alloc, out, span)?;
+    push_bytes(out, b" USING ")?;
+    push_digest_kind(out, kind)
+}
+
+#[tactic(auto, unfolding(crate::specs::Texts::master_text))]
+fn push_master(alloc: Global, out: &mut Vec<u8>, kind: DigestKind, master: &Digest) -> R<()>
+    ensures { OnOk result (out.new.items ≡ out.old.items ++ master_text kind master.now) }
+{
+    push_bytes(out, b" CNT ")?;
+    push_number(alloc, out, master.count)?;
+    push_bytes(out, b" CRC '")?;
+    let crc = crc_text(alloc, master, kind)?;
+    push_bytes(out, crc.as_slice())?;
+    push_bytes(out, b"'")
+}
+
+#[tactic(auto, unfolding(crate::specs::Texts::clear_word))]
+fn push_clear_word(out: &mut Vec<u8>) -> R<()>
+    ensures { OnOk result (out.new.items ≡ out.old.items ++ clear_word) }
+{
+    push_bytes(out, b"CLEARCHECKS ")
+}
+
+#[tactic(auto, unfolding(crate::specs::Texts::statement_text))]
+pub(crate) fn push_statement(
+    alloc: Global,
+    out: &mut Vec<u8>,
+    schemas: &SchemaList,
+    statement: &Statement,
+) -> R<()>
+    ensures { OnOk result (out.new.items ≡ out.old.items ++ statement_text schemas.now statement.now) }
+{
+    match statement {
+        Statement::Check {
+            table,
+            chunk,
+            span,
+            kind,
+        } => {
+            push_bytes(out, b"CHECKSUM ")?;
+            push_chunk(alloc, out, schemas, *table, *chunk)?;
+            push_summed(alloc, out, span, *kind)
+        }
+        Statement::SetMaster {
+            table,
+            chunk,
+            kind,
+            master,
+        } => {
+            push_bytes(out, b"SETMASTER ")?;
+            push_chunk(alloc, out, schemas, *table, *chunk)?;
+            push_master(alloc, out, *kind, master)
+        }
+        Statement::ClearChecks { table } => {
+            push_clear_word(out)?;
+            push_name(out, schemas, *table)
+        }
+    }
 }
