@@ -1,6 +1,6 @@
 //! The report's parts: rows, the log, histories, and which tables are equal. After a refusal of
 //! memory a text is incomplete.
-ghost use Rattle.std.specs.Prelude.{◌≡◌, ◌++◌, codes, OnOk};
+ghost use Rattle.std.specs.Prelude.{◌≡◌, ◌++◌, IfOk, OnOk};
 ghost use Rattle.std.specs.List.{flat_map};
 ghost use Rattle.cluster_core.specs.Report.{replica_text, row_place_text, row_line, rows_lines, tables_lines, origin_text, statement_line, entry_line, entry_lines, log_lines, item_line, history_lines, equal_line, equal_lines, head_text, status_line};
 ghost use Rattle.cluster_core.specs.Texts.{table_line};
@@ -97,6 +97,29 @@ pub(crate) fn push_tables(
         push_rows(alloc, out, word, node, name_of(schemas, table), rows)?;
     }
     Ok(())
+}
+
+fn replica_name(alloc: Global, replica: u32) -> R<Vec<u8>>
+    ensures { IfOk result (λ name. name.items ≡ replica_text replica) }
+{
+    let mut name = Vec::new(alloc);
+    push_replica(alloc, &mut name, replica)?;
+    Ok(name)
+}
+
+/// The rows of a replica, table by table.
+pub(crate) fn push_replica_tables(
+    alloc: Global,
+    out: &mut Vec<u8>,
+    schemas: &SchemaList,
+    word: &[u8],
+    replica: u32,
+    tables: &Tables,
+) -> R<()>
+    ensures { OnOk result (out.new.items ≡ out.old.items ++ tables_lines schemas.now word.now (replica_text replica) 0 tables.now) }
+{
+    let name = replica_name(alloc, replica)?;
+    push_tables(alloc, out, schemas, word, name.as_slice(), tables)
 }
 
 #[tactic(auto, unfolding(crate::specs::Report::origin_text))]
