@@ -19,7 +19,8 @@ use Rattle.history.proofs.ReplayLemmas.{fold_more, masters_more, follows_more, f
 use Rattle.history.proofs.VerdictLemmas.{each_verdict}
 use Rattle.cluster_core.specs.Node.{NodeView, replayed_of, logged}
 use Rattle.cluster_core.specs.World.{WorldView, fresh, begun, by_tool, whole_table, tool_logged, published, next_phase, tool_turn_in, next_applied, worker_turn, turn, after, after_turns, workers_from, order, round, rounds, IsStill, EndsIn}
-use Rattle.cluster_core.specs.Report.{VerdictLine, verdict_line, all_chunks, replica_verdicts, verdicts_from, verdicts_of}
+use Rattle.cluster_core.specs.declared.report_verdicts.VerdictLine.{VerdictLine}
+use Rattle.cluster_core.specs.Report.{verdict_line, all_chunks, replica_verdicts, verdicts_from, verdicts_of}
 use Rattle.cluster_core.specs.Headline.{LineHolds, AppliedAll, RunHolds}
 use Rattle.cluster_core.specs.Workload.{IsWorkload}
 use Rattle.cluster_core.specs.declared.workload.Workload.{Workload}

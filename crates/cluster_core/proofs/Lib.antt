@@ -2,4 +2,6 @@ pub mod EachLemmas
 pub mod HeadlineLemmas
 pub mod MasterLemmas
 pub mod NodeLemmas
+pub mod OrderLemmas
+pub mod ReportLemmas
 pub mod RunLemmas

@@ -55,12 +55,13 @@ as_many (column ∷ columns) (value ∷ values) fit = ap suc (as_many columns va
 rows_are_checkable : (schema : Schema) (rows : List (List Value)) → IsSchema schema → IsTable schema rows
     → AllByRecursion (IsCheckable schema) rows
 rows_are_checkable schema [] is table = tt
-rows_are_checkable schema (row ∷ rows) is table =
-    (record {
-        key = omega (arith, as_many schema.columns row table.0, is.within);
-        encodable = values_are_short schema.columns row is.lengths table.0;
-      },
-     rows_are_checkable schema rows is table.2)
+rows_are_checkable schema (row ∷ rows) is table = (
+  record {
+    key = omega (arith, as_many schema.columns row table.0, is.within);
+    encodable = values_are_short schema.columns row is.lengths table.0;
+  },
+  rows_are_checkable schema rows is table.2,
+)
 
 pub are_checkable : (schemas : List Schema) (tables : List (List (List Value)))
     → AllByRecursion IsSchema schemas → AreTables schemas tables → AreCheckable schemas tables
@@ -78,7 +79,7 @@ pub after_one : (schemas : List Schema) (position : ℕ) (statement : Statement)
     ≡ after_statements schemas position statements (record { tables = tables; checks = next })
 after_one schemas position statement statements tables checks next is =
     let same : after_statement schemas position statement (record { tables = tables; checks = checks }) ≡ record { tables = tables; checks = next } =
-        rw (← is) (ap (λ (t : List (List (List Value))). record { tables = t; checks = next }) (tables_after-unchanged statement tables)) in
+    rw (← is) (ap (λ (t : List (List (List Value))). record { tables = t; checks = next }) (tables_after-unchanged statement tables)) in
     ap (after_statements schemas position statements) same
 
 -- what a node keeps after one more entry
@@ -92,10 +93,10 @@ pub log_keeps : (schemas : List Schema) (start : List (List (List Value))) (hist
     → fold schemas start new ≡ record { tables = live; checks = next }
 log_keeps schemas start history new entry number position live checks next tables_are checks_are counted at after grown =
     let here : fold schemas start history ≡ record { tables = live; checks = checks } =
-        ap (λ (t : List (List (List Value))). record { tables = t; checks = (fold schemas start history).checks }) tables_are
-        ∙ ap (λ (cs : List CheckEntry). record { tables = live; checks = cs }) checks_are in
+    ap (λ (t : List (List (List Value))). record { tables = t; checks = (fold schemas start history).checks }) tables_are
+    ∙ ap (λ (cs : List CheckEntry). record { tables = live; checks = cs }) checks_are in
     let place : position_of (length history + 1) entry.origin ≡ position =
-        ap (λ n. position_of (n + 1) entry.origin) (sym counted) ∙ sym at in
+    ap (λ n. position_of (n + 1) entry.origin) (sym counted) ∙ sym at in
     ap (fold schemas start) grown
     ∙ fold_more schemas start history entry
     ∙ ap (after_entry schemas (length history + 1) entry) here

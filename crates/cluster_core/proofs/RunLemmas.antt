@@ -34,9 +34,9 @@ after_turns-append (actor ∷ actors) more w = after_turns-append actors more (a
 
 pub reaches_more : (first middle last : WorldView) → Reaches first middle → Reaches middle last → Reaches first last
 reaches_more first middle last one two = record {
-    turns = one.turns ++ two.turns;
-    reached = two.reached ∙ ap (after_turns two.turns) one.reached ∙ sym (after_turns-append one.turns two.turns first);
-  }
+  turns = one.turns ++ two.turns;
+  reached = two.reached ∙ ap (after_turns two.turns) one.reached ∙ sym (after_turns-append one.turns two.turns first);
+}
 
 -- the element within a list
 pub slice_get-within : {A : Type 0} → (xs : List A) (i : ℕ) (d : A) → i < length xs → slice_get xs i ≡ Some (slice_index_or xs i d)
@@ -50,14 +50,14 @@ took_step : (w : WorldView) (place : ℕ) (node new : NodeView) (moved : Bool) (
     → Takes next moved node new
     → Takes (option_and_then (λ (n : NodeView). Some (record w { replicas = slice_set w.replicas place n })) next) moved w (record w { replicas = slice_set w.replicas place new })
 took_step w place node new moved None stays takes = record {
-    did = takes.did;
-    state = ap (λ (n : NodeView). record w { replicas = slice_set w.replicas place n }) takes.state
+  did = takes.did;
+  state = ap (λ (n : NodeView). record w { replicas = slice_set w.replicas place n }) takes.state
       ∙ ap (λ (ns : List NodeView). record w { replicas = ns }) stays;
-  }
+}
 took_step w place node new moved (Some n) stays takes = record {
-    did = takes.did;
-    state = ap (λ (m : NodeView). record w { replicas = slice_set w.replicas place m }) takes.state;
-  }
+  did = takes.did;
+  state = ap (λ (m : NodeView). record w { replicas = slice_set w.replicas place m }) takes.state;
+}
 
 pub worker_takes : (w : WorldView) (replica : ℕ) (node new : NodeView) (moved : Bool)
     → replica - 1 < length w.replicas
@@ -67,7 +67,7 @@ pub worker_takes : (w : WorldView) (replica : ℕ) (node new : NodeView) (moved 
 worker_takes w replica node new moved within is takes =
     let found : slice_get w.replicas (replica - 1) ≡ Some node = slice_get-within w.replicas (replica - 1) node within ∙ ap (λ (n : NodeView). Some n) (sym is) in
     let stays : slice_set w.replicas (replica - 1) node ≡ w.replicas =
-        ap (slice_set w.replicas (replica - 1)) is ∙ set-get_or w.replicas (replica - 1) node in
+    ap (slice_set w.replicas (replica - 1)) is ∙ set-get_or w.replicas (replica - 1) node in
     let P : Option NodeView → Type 0 = λ o. Takes (option_and_then (λ (n : NodeView). option_and_then (λ (m : NodeView). Some (record w { replicas = slice_set w.replicas (replica - 1) m })) (next_applied w.source.history n)) o) moved w (record w { replicas = slice_set w.replicas (replica - 1) new }) in
     subst P (sym found) (took_step w (replica - 1) node new moved (next_applied w.source.history node) stays takes)
 
@@ -93,23 +93,24 @@ logged_nearer : (w : WorldView) (statement : Statement) (next : ToolPhase)
 logged_nearer w statement next less =
     let grown : length (tool_logged statement next w).source.history ≡ length w.source.history + 1 = simp length-append (omega arith) in
     let lag : lags (length (tool_logged statement next w).source.history) w.replicas ≤ lags (length w.source.history) w.replicas + length w.replicas =
-        rw grown (lags_grow (length w.source.history) w.replicas) in
+    rw grown (lags_grow (length w.source.history) w.replicas) in
     omega (arith, mul-le-mul_left (length w.replicas + 1) less)
 
 -- Master is followed by the next table's Clear, if there is one
 next_phase_nearer : (table : ℕ) (w : WorldView) → entries_left (length w.source.schemas) (next_phase table w) < entries_left (length w.source.schemas) (Master table)
 next_phase_nearer table w =
     let P : Bool → Type 0 = λ b. entries_left (length w.source.schemas) (cond b (Clear (table + 1)) Finished) < entries_left (length w.source.schemas) (Master table) in
-    elim (nat_lt (table + 1) (length w.source.schemas)) as (λ b. nat_lt (table + 1) (length w.source.schemas) ≡ b → P b)
-    [ true ↦ λ is. (let within : table + 1 < length w.source.schemas = ltb-true (table + 1) (length w.source.schemas) is in omega arith)
-    | false ↦ λ is. omega arith ] refl
+    elim (nat_lt (table + 1) (length w.source.schemas)) as (λ b. nat_lt (table + 1) (length w.source.schemas) ≡ b → P b) [
+      | true ↦ λ is. (let within : table + 1 < length w.source.schemas = ltb-true (table + 1) (length w.source.schemas) is in omega arith)
+      | false ↦ λ is. omega arith
+    ] refl
 
 published_nearer : (table : ℕ) (row : Option CheckRow) (w v : WorldView) → w.phase ≡ Master table → published table row w ≡ Some v → turns_left v < turns_left w
 published_nearer table None w v at is = absurd (cc)
 published_nearer table (Some row) w v at is =
     let same : tool_logged (SetMaster table 1 row.kind row.this) (next_phase table w) w ≡ v = cc in
     let left : entries_left (length w.source.schemas) (next_phase table w) < entries_left (length w.source.schemas) w.phase =
-        rw at (next_phase_nearer table w) in
+    rw at (next_phase_nearer table w) in
     rw (← same) (logged_nearer w (SetMaster table 1 row.kind row.this) (next_phase table w) left)
 
 tool_nearer : (phase : ToolPhase) (w v : WorldView) → w.phase ≡ phase → tool_turn_in phase w ≡ Some v → turns_left v < turns_left w
@@ -129,15 +130,16 @@ applied_nearer : (log : List Entry) (node new : NodeView) → next_applied log n
     → length log - applied_of new.history < length log - applied_of node.history
 applied_nearer log node new is =
     elim (slice_get log (applied_of node.history)) as (λ o. slice_get log (applied_of node.history) ≡ o
-      → option_and_then (λ (entry : Entry). Some (logged node (applying (applied_of node.history + 1) entry))) o ≡ Some new
-      → length log - applied_of new.history < length log - applied_of node.history)
-    [ None ↦ λ found next. absurd (cc)
-    | Some entry ↦ λ found next.
-        (let within : applied_of node.history < length log = slice_get_within log (applied_of node.history) entry found in
-         let same : logged node (applying (applied_of node.history + 1) entry) ≡ new = cc in
-         let done : applied_of new.history ≡ applied_of node.history + 1 =
-            ap (λ (n : NodeView). applied_of n.history) (sym same) ∙ applied_of-more node.history (applying (applied_of node.history + 1) entry) in
-         omega arith) ] refl is
+    → option_and_then (λ (entry : Entry). Some (logged node (applying (applied_of node.history + 1) entry))) o ≡ Some new
+    → length log - applied_of new.history < length log - applied_of node.history) [
+      | None ↦ λ found next. absurd (cc)
+      | Some entry ↦ λ found next.
+          (let within : applied_of node.history < length log = slice_get_within log (applied_of node.history) entry found in
+          let same : logged node (applying (applied_of node.history + 1) entry) ≡ new = cc in
+          let done : applied_of new.history ≡ applied_of node.history + 1 =
+          ap (λ (n : NodeView). applied_of n.history) (sym same) ∙ applied_of-more node.history (applying (applied_of node.history + 1) entry) in
+          omega arith)
+    ] refl is
 
 worker_nearer_at : (w v : WorldView) (place : ℕ) (node new : NodeView)
     → slice_get w.replicas place ≡ Some node → next_applied w.source.history node ≡ Some new
@@ -151,24 +153,27 @@ worker_nearer_at w v place node new found next same =
 worker_nearer : (replica : ℕ) (w v : WorldView) → worker_turn replica w ≡ Some v → turns_left v < turns_left w
 worker_nearer replica w v is =
     elim (slice_get w.replicas (replica - 1)) as (λ o. slice_get w.replicas (replica - 1) ≡ o
-      → option_and_then (λ (node : NodeView). option_and_then (λ (n : NodeView). Some (record w { replicas = slice_set w.replicas (replica - 1) n })) (next_applied w.source.history node)) o ≡ Some v
-      → turns_left v < turns_left w)
-    [ None ↦ λ found step. absurd (cc)
-    | Some node ↦ λ found step.
-      (elim (next_applied w.source.history node) as (λ o. next_applied w.source.history node ≡ o
-        → option_and_then (λ (n : NodeView). Some (record w { replicas = slice_set w.replicas (replica - 1) n })) o ≡ Some v
-        → turns_left v < turns_left w)
-      [ None ↦ λ next moved. absurd (cc)
-      | Some new ↦ λ next moved.
-          (let same : record w { replicas = slice_set w.replicas (replica - 1) new } ≡ v = cc in
-           worker_nearer_at w v (replica - 1) node new found next same) ] refl step) ] refl is
+    → option_and_then (λ (node : NodeView). option_and_then (λ (n : NodeView). Some (record w { replicas = slice_set w.replicas (replica - 1) n })) (next_applied w.source.history node)) o ≡ Some v
+    → turns_left v < turns_left w) [
+      | None ↦ λ found step. absurd (cc)
+      | Some node ↦ λ found step.
+          (elim (next_applied w.source.history node) as (λ o. next_applied w.source.history node ≡ o
+          → option_and_then (λ (n : NodeView). Some (record w { replicas = slice_set w.replicas (replica - 1) n })) o ≡ Some v
+          → turns_left v < turns_left w) [
+            | None ↦ λ next moved. absurd (cc)
+            | Some new ↦ λ next moved.
+                (let same : record w { replicas = slice_set w.replicas (replica - 1) new } ≡ v = cc in
+                worker_nearer_at w v (replica - 1) node new found next same)
+          ] refl step)
+    ] refl is
 
 pub turn_nearer : (actor : Actor) (w v : WorldView) → turn actor w ≡ Some v → turns_left v < turns_left w
 turn_nearer Tool w v is = tool_nearer w.phase w v refl is
 turn_nearer (Worker replica worker) w v is =
-    elim (worker == 1) as (λ b. cond b (worker_turn replica w) None ≡ Some v → turns_left v < turns_left w)
-    [ true ↦ λ moved. worker_nearer replica w v moved
-    | false ↦ λ moved. absurd (cc) ] is
+    elim (worker == 1) as (λ b. cond b (worker_turn replica w) None ≡ Some v → turns_left v < turns_left w) [
+      | true ↦ λ moved. worker_nearer replica w v moved
+      | false ↦ λ moved. absurd (cc)
+    ] is
 
 -- no turn yet
 pub took_none : (w : WorldView) → TookTurns w w [] false
@@ -199,27 +204,27 @@ took_more_as : (old now new : WorldView) (actors : List Actor) (actor : Actor) (
 took_more_as old now new actors actor moved true None so_far is takes = absurd (let no : true ≡ false = takes.did in cc)
 took_more_as old now new actors actor moved false (Some next) so_far is takes = absurd (let no : false ≡ true = takes.did in cc)
 took_more_as old now new actors actor true false None so_far is takes = record {
-    reached = took_more_reached old now new actors actor so_far.reached (after_is actor now new None is takes.state);
-    still = λ no. absurd (cc);
-    nearer = λ _. subst (λ (v : WorldView). turns_left v < turns_left old) (sym takes.state) (so_far.nearer refl);
-  }
+  reached = took_more_reached old now new actors actor so_far.reached (after_is actor now new None is takes.state);
+  still = λ no. absurd (cc);
+  nearer = λ _. subst (λ (v : WorldView). turns_left v < turns_left old) (sym takes.state) (so_far.nearer refl);
+}
 took_more_as old now new actors actor false false None so_far is takes = record {
-    reached = took_more_reached old now new actors actor so_far.reached (after_is actor now new None is takes.state);
-    still = λ _. took_more_still old now new actors actor (so_far.still refl) is takes.state;
-    nearer = λ no. absurd (cc);
-  }
+  reached = took_more_reached old now new actors actor so_far.reached (after_is actor now new None is takes.state);
+  still = λ _. took_more_still old now new actors actor (so_far.still refl) is takes.state;
+  nearer = λ no. absurd (cc);
+}
 took_more_as old now new actors actor true true (Some next) so_far is takes = record {
-    reached = took_more_reached old now new actors actor so_far.reached (after_is actor now new (Some next) is takes.state);
-    still = λ no. absurd (cc);
-    nearer = λ _. (let less : turns_left new < turns_left now = subst (λ (v : WorldView). turns_left v < turns_left now) (sym takes.state) (turn_nearer actor now next is) in
+  reached = took_more_reached old now new actors actor so_far.reached (after_is actor now new (Some next) is takes.state);
+  still = λ no. absurd (cc);
+  nearer = λ _. (let less : turns_left new < turns_left now = subst (λ (v : WorldView). turns_left v < turns_left now) (sym takes.state) (turn_nearer actor now next is) in
       omega (arith, so_far.nearer refl));
-  }
+}
 took_more_as old now new actors actor false true (Some next) so_far is takes = record {
-    reached = took_more_reached old now new actors actor so_far.reached (after_is actor now new (Some next) is takes.state);
-    still = λ no. absurd (cc);
-    nearer = λ _. (let less : turns_left new < turns_left now = subst (λ (v : WorldView). turns_left v < turns_left now) (sym takes.state) (turn_nearer actor now next is) in
+  reached = took_more_reached old now new actors actor so_far.reached (after_is actor now new (Some next) is takes.state);
+  still = λ no. absurd (cc);
+  nearer = λ _. (let less : turns_left new < turns_left now = subst (λ (v : WorldView). turns_left v < turns_left now) (sym takes.state) (turn_nearer actor now next is) in
       subst (λ (v : WorldView). turns_left new < turns_left v) (so_far.still refl).0 less);
-  }
+}
 
 pub took_more : (old now new : WorldView) (actors : List Actor) (actor : Actor) (moved step : Bool)
     → TookTurns old now actors moved → Takes (turn actor now) step now new
@@ -238,7 +243,7 @@ workers_from-suc number [] i within = absurd (omega arith)
 workers_from-suc number (node ∷ nodes) zero within = ap (λ n. Worker n 1 ∷ []) (omega arith)
 workers_from-suc number (node ∷ nodes) (suc i) within =
     ap (λ (rest : List Actor). Worker number 1 ∷ rest) (workers_from-suc (number + 1) nodes i (omega arith)
-      ∙ ap (λ n. workers_from (number + 1) (take i nodes) ++ Worker n 1 ∷ []) (omega arith))
+    ∙ ap (λ n. workers_from (number + 1) (take i nodes) ++ Worker n 1 ∷ []) (omega arith))
 
 workers_from-more : (number : ℕ) (nodes : List NodeView) (i : ℕ) → i < length nodes
     → workers_from number (take (i + 1) nodes) ≡ workers_from number (take i nodes) ++ Worker (i + number) 1 ∷ []
@@ -268,10 +273,10 @@ runs_none first = record { count = zero; reached = refl; turns = reaches_none fi
 
 pub runs_more : (first now next : WorldView) (moved : Bool) → RunsSoFar first now → TookTurns now next (order now) moved → RunsSoFar first next
 runs_more first now next moved so_far took = record {
-    count = suc so_far.count;
-    reached = took.reached ∙ ap round so_far.reached ∙ rounds_more so_far.count first;
-    turns = reaches_more first now next so_far.turns (took_reaches now next (order now) moved took);
-  }
+  count = suc so_far.count;
+  reached = took.reached ∙ ap round so_far.reached ∙ rounds_more so_far.count first;
+  turns = reaches_more first now next so_far.turns (took_reaches now next (order now) moved took);
+}
 
 pub runs_end : (first now next : WorldView) (moved : Bool) → RunsSoFar first now → TookTurns now next (order now) moved → moved ≡ false → EndsIn first next
 runs_end first now next moved so_far took none =

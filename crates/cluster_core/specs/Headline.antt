@@ -11,7 +11,8 @@ use Rattle.history.specs.Replay.{chunk_rows, source_at, replica_at, Follows}
 use Rattle.history.specs.Headline.{MastersAreTrue, HasStatementAt, DigestsDistinguish}
 use Rattle.cluster_core.specs.Node.{NodeView}
 use Rattle.cluster_core.specs.World.{WorldView}
-use Rattle.cluster_core.specs.Report.{VerdictLine, verdicts_of}
+use Rattle.cluster_core.specs.Report.{verdicts_of}
+use Rattle.cluster_core.specs.declared.report_verdicts.VerdictLine.{VerdictLine}
 use Rattle.cluster_core.specs.declared.actors.ToolPhase.TheVariants.{Finished}
 use Rattle.cluster_core.specs.declared.workload.Workload.{Workload}
 

@@ -1,12 +1,11 @@
 -- The report of a world: its lines, in the order in which they are written.
-use Rattle.std.specs.Prelude.{ℕ, ◌≡◌, ◌+◌, Bool, true, false, cond, List, [], ◌∷◌, ◌++◌, Option, None, Some, codes, map}
+use Rattle.std.specs.Prelude.{ℕ, ◌+◌, Bool, true, false, cond, List, [], ◌∷◌, ◌++◌, Option, None, Some, codes, map}
 use Rattle.std.specs.List.{flat_map, list_any}
 use Rattle.std.specs.Option.{option_map}
 use Rattle.std.specs.Fmt.{decimal}
 use Rattle.std.specs.Ordering.{is_eq}
 use Rattle.std.specs.Cmp.Lexicographic.{slice_cmp}
 use Rattle.row_types.specs.declared.values.Value.{Value}
-use Rattle.row_types.specs.declared.edges.Span.{Span}
 use Rattle.row_types.specs.declared.table_schema.Schema.{Schema}
 use Rattle.row_types.specs.declared.digests.Digest.{Digest}
 use Rattle.row_types.specs.Order.{key_cmp}
@@ -21,14 +20,19 @@ use Rattle.history.specs.declared.checks.Verdict.TheVariants.{Same, Differ, Pend
 use Rattle.history.specs.Checks.{check_at, with_absent, verdict_of_row}
 use Rattle.cluster_core.specs.Node.{NodeView, replayed_of}
 use Rattle.cluster_core.specs.World.{WorldView}
+use Rattle.cluster_core.specs.declared.report_verdicts.VerdictLine.{VerdictLine}
 use Rattle.cluster_core.specs.Texts.{name_of, table_line, tuple_text, span_text, statement_text}
 
 unfoldable pub replica_text : ℕ → List ℕ
 replica_text replica = codes "r" ++ decimal replica
 
--- START or FINAL, the node, the table, the row
+-- START or FINAL, the node, the table
+unfoldable pub row_place_text : List ℕ → List ℕ → List ℕ → List ℕ
+row_place_text word node name = word ++ codes " " ++ node ++ codes " " ++ name ++ codes " "
+
+-- the place of the row, and the row
 unfoldable pub row_line : List ℕ → List ℕ → List ℕ → List Value → List ℕ
-row_line word node name row = word ++ codes " " ++ node ++ codes " " ++ name ++ codes " " ++ tuple_text row ++ codes "\n"
+row_line word node name row = row_place_text word node name ++ tuple_text row ++ codes "\n"
 
 abbrev pub rows_lines : List ℕ → List ℕ → List ℕ → List (List Value) → List ℕ
 rows_lines word node name rows = flat_map (row_line word node name) rows
@@ -46,11 +50,12 @@ origin_text (Applied entry) = codes "applied " ++ decimal entry
 unfoldable pub statement_line : List Schema → Statement → List ℕ
 statement_line schemas statement = codes "  " ++ statement_text schemas statement ++ codes "\n"
 
+unfoldable pub entry_line : ℕ → Origin → List ℕ
+entry_line number origin = codes "LOG " ++ decimal number ++ codes " " ++ origin_text origin ++ codes "\n"
+
 -- an entry of the log and its statements
 unfoldable pub entry_lines : List Schema → ℕ → Entry → List ℕ
-entry_lines schemas number entry =
-    codes "LOG " ++ decimal number ++ codes " " ++ origin_text entry.origin ++ codes "\n"
-    ++ flat_map (statement_line schemas) entry.statements
+entry_lines schemas number entry = entry_line number entry.origin ++ flat_map (statement_line schemas) entry.statements
 
 -- the entries of a log, the first of this number
 abbrev pub log_lines : List Schema → ℕ → List Entry → List ℕ
@@ -63,17 +68,6 @@ item_line replica item = codes "HISTORY " ++ replica_text replica ++ codes " " +
 
 abbrev pub history_lines : ℕ → List Entry → List ℕ
 history_lines replica history = flat_map (item_line replica) history
-
--- what a VERDICT line says of a replica's chunk; a count that isn't known is none
-pub record VerdictLine : Type 0 where
-  pub replica : ℕ
-  pub table : ℕ
-  pub chunk : ℕ
-  pub span : Span
-  pub position : ℕ
-  pub master_count : Option ℕ
-  pub own_count : Option ℕ
-  pub verdict : Verdict
 
 -- by the replica's row of the chunk; where it has none, by that of the source, with no counts
 abbrev pub verdict_line : ℕ → CheckEntry → Option CheckRow → VerdictLine
@@ -132,13 +126,17 @@ count_text (Some count) = decimal count
 unfoldable pub verdict_place_text : List Schema → VerdictLine → List ℕ
 verdict_place_text schemas line = codes "VERDICT " ++ replica_text line.replica ++ codes " " ++ name_of schemas line.table ++ codes " " ++ decimal line.chunk
 
+-- its edges, and the log position of its CHECKSUM
+unfoldable pub verdict_span_text : VerdictLine → List ℕ
+verdict_span_text line = codes " " ++ span_text line.span ++ codes " AT " ++ decimal line.position
+
 unfoldable pub verdict_counts_text : VerdictLine → List ℕ
 verdict_counts_text line = codes " COUNT " ++ count_text line.master_count ++ codes " " ++ count_text line.own_count
 
 unfoldable pub verdict_line_text : List Schema → VerdictLine → List ℕ
 verdict_line_text schemas line =
-    verdict_place_text schemas line ++ codes " " ++ span_text line.span ++ codes " AT " ++ decimal line.position
-    ++ verdict_counts_text line ++ codes " " ++ verdict_text line.verdict ++ codes "\n"
+    verdict_place_text schemas line ++ verdict_span_text line ++ verdict_counts_text line
+    ++ codes " " ++ verdict_text line.verdict ++ codes "\n"
 
 abbrev pub rows_equal : List (List Value) → List (List Value) → Bool
 rows_equal rows others = is_eq (slice_cmp key_cmp rows others)
@@ -172,9 +170,12 @@ is_differ Same = false
 is_differ Differ = true
 is_differ Pending = false
 
+abbrev pub differs : VerdictLine → Bool
+differs line = is_differ line.verdict
+
 -- 16 where a DIFFER line stands, else 0
 abbrev pub status_of : WorldView → ℕ
-status_of w = cond (list_any (λ (line : VerdictLine). is_differ line.verdict) (verdicts_of w)) 16 0
+status_of w = cond (list_any differs (verdicts_of w)) 16 0
 
 unfoldable pub head_text : List Schema → List ℕ
 head_text schemas = codes "PTC REPORT 1\n" ++ flat_map table_line schemas
@@ -199,8 +200,11 @@ finals_text w =
     ++ each_replica (final_lines w.source.schemas) 1 w.replicas
     ++ each_replica (equals_of w.source.schemas (replayed_of w.source).tables) 1 w.replicas
 
-unfoldable pub status_text : WorldView → List ℕ
-status_text w = codes "STATUS " ++ decimal (status_of w) ++ codes "\n"
+unfoldable pub status_line : ℕ → List ℕ
+status_line status = codes "STATUS " ++ decimal status ++ codes "\n"
+
+abbrev pub status_text : WorldView → List ℕ
+status_text w = status_line (status_of w)
 
 -- the whole report
 unfoldable pub report_of : WorldView → List ℕ

@@ -1,6 +1,6 @@
 -- How schemas, values, edges and statements are written.
-use Rattle.std.specs.Prelude.{ℕ, ◌+◌, ◌==◌, nat_lt, cond, List, [], ◌∷◌, ◌++◌, Option, codes}
-use Rattle.std.specs.List.{slice_get, flat_map}
+use Rattle.std.specs.Prelude.{ℕ, ◌+◌, ◌==◌, nat_lt, cond, List, [], ◌∷◌, ◌++◌, codes}
+use Rattle.std.specs.List.{slice_get}
 use Rattle.std.specs.Option.{option_map_or}
 use Rattle.std.specs.Fmt.{decimal, signed_decimal}
 use Rattle.row_types.specs.declared.values.Value.{Value}
@@ -8,6 +8,7 @@ use Rattle.row_types.specs.declared.values.Value.TheVariants.{Null, Int, Text}
 use Rattle.row_types.specs.declared.edges.Edge.{Edge}
 use Rattle.row_types.specs.declared.edges.Edge.TheVariants.{Low, Before, After, High}
 use Rattle.row_types.specs.declared.edges.Span.{Span}
+use Rattle.row_types.specs.declared.digests.Digest.{Digest}
 use Rattle.row_types.specs.declared.digests.DigestKind.{DigestKind}
 use Rattle.row_types.specs.declared.digests.DigestKind.TheVariants.{Md5, Sha1}
 use Rattle.row_types.specs.declared.table_schema.ColumnKind.{ColumnKind}
@@ -19,7 +20,7 @@ use Rattle.ptc_statement.specs.declared.statements.Statement.TheVariants.{Check,
 use Rattle.history.specs.Digest.{crc_text}
 
 -- the name of the table of this number
-abbrev pub name_of : List Schema → ℕ → List ℕ
+unfoldable pub name_of : List Schema → ℕ → List ℕ
 name_of schemas table = option_map_or (λ (schema : Schema). schema.name) (slice_get schemas table) []
 
 unfoldable pub kind_text : ColumnKind → List ℕ
@@ -84,9 +85,19 @@ digest_kind_text Sha1 = codes "SHA1"
 unfoldable pub chunk_text : List Schema → ℕ → ℕ → List ℕ
 chunk_text schemas table chunk = name_of schemas table ++ codes " CHUNK " ++ decimal chunk
 
+-- what a CHECKSUM sums, and how
+unfoldable pub summed_text : Span → DigestKind → List ℕ
+summed_text span kind = codes " " ++ span_text span ++ codes " USING " ++ digest_kind_text kind
+
+-- the source's checksum in a SETMASTER
+unfoldable pub master_text : DigestKind → Digest → List ℕ
+master_text kind master = codes " CNT " ++ decimal master.count ++ codes " CRC '" ++ crc_text kind master ++ codes "'"
+
+unfoldable pub clear_word : List ℕ
+clear_word = codes "CLEARCHECKS "
+
 unfoldable pub statement_text : List Schema → Statement → List ℕ
-statement_text schemas (Check table chunk span kind) =
-    codes "CHECKSUM " ++ chunk_text schemas table chunk ++ codes " " ++ span_text span ++ codes " USING " ++ digest_kind_text kind
+statement_text schemas (Check table chunk span kind) = codes "CHECKSUM " ++ chunk_text schemas table chunk ++ summed_text span kind
 statement_text schemas (SetMaster table chunk kind master) =
-    codes "SETMASTER " ++ chunk_text schemas table chunk ++ codes " CNT " ++ decimal master.count ++ codes " CRC '" ++ crc_text kind master ++ codes "'"
-statement_text schemas (ClearChecks table) = codes "CLEARCHECKS " ++ name_of schemas table
+    codes "SETMASTER " ++ chunk_text schemas table chunk ++ master_text kind master
+statement_text schemas (ClearChecks table) = clear_word ++ name_of schemas table

@@ -4,10 +4,19 @@
 pub mod actors;
 pub mod laws;
 pub mod nodes;
+mod report;
+pub mod report_laws;
+mod report_nodes;
+pub mod report_verdicts;
+mod texts;
 pub mod workload;
 pub mod worlds;
 
 pub use actors::{Actor, ToolPhase};
 pub use nodes::Node;
+pub use report_verdicts::VerdictLine;
 pub use workload::{Copies, Workload};
-pub use worlds::World;
+pub use worlds::{RunReport, World};
+
+#[cfg(test)]
+mod report_tests;

@@ -6,12 +6,11 @@ ghost use Rattle.history.specs.Replay.{applied_of, checks_after, chunk_rows, pos
 ghost use Rattle.cluster_core.specs.Node.{replayed_of, logged};
 ghost use Rattle.cluster_core.specs.Checkable.{AreCheckable};
 
-use std::alloc::Global;
-use std::marker::Model;
-
 use history::{CheckRow, Checks, Entries, Entry, Origin, digest_rows};
 use ptc_statement::Statement;
 use row_types::{Digest, DigestKind, R, Schemas, Span, Tables};
+use std::alloc::Global;
+use std::marker::Model;
 
 /// A server: the source or a replica. It is seen as its schemas, the rows that it began with and its
 /// history; its live rows and check rows are the replay of that history.

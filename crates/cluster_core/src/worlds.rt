@@ -5,17 +5,21 @@ ghost use Rattle.history.specs.Checks.{check_at};
 ghost use Rattle.cluster_core.specs.Node.{replayed_of};
 ghost use Rattle.cluster_core.specs.Workload.{IsWorkload};
 ghost use Rattle.cluster_core.specs.World.{begun, fresh, turn, tool_turn, worker_turn, tool_logged, published, next_phase, next_applied, order, EndsIn, Reaches};
+ghost use Rattle.cluster_core.specs.Report.{report_of, status_of, starts_text, histories_text, verdicts_text, finals_text};
 ghost use Rattle.cluster_core.specs.Turns.{IsNumbered, Takes, TookTurns};
-
-use std::alloc::Global;
-use std::marker::Model;
 
 use crate::actors::{Actor, ToolPhase};
 use crate::nodes::Node;
+use crate::report::{push_head, push_log, push_status, push_tables};
+use crate::report_nodes::{
+    push_each_equal, push_each_final, push_each_history, push_each_start, push_each_verdict,
+};
 use crate::workload::Workload;
 use history::{Entries, Entry, Origin};
 use ptc_statement::{Statement, Statements};
-use row_types::{DigestKind, R, Schemas, Span, Tables};
+use row_types::{Bytes, DigestKind, R, Schemas, Span, Tables};
+use std::alloc::Global;
+use std::marker::Model;
 
 /// A source, its replicas and the checksum tool. Each turn does one whole statement or applies one
 /// whole entry.
@@ -25,6 +29,13 @@ pub struct World {
     replicas: Vec<Node>,
     phase: ToolPhase,
     alloc: Global,
+}
+
+/// The text of a report, and the exit status that it says.
+#[derive(Debug, Drop)]
+pub struct RunReport {
+    pub text: Bytes,
+    pub status: u8,
 }
 
 impl Model for World {
@@ -84,6 +95,85 @@ impl World {
                 return Ok(());
             }
         }
+    }
+
+    /// The report of the world as it is now, and the exit status that it says.
+    #[tactic(auto, unfolding(crate::specs::Report::report_of))]
+    pub fn report(&self) -> R<RunReport>
+        ensures text { IfOk result (λ report. report.text ≡ report_of self.now) }
+        ensures status { IfOk result (λ report. report.status ≡ status_of self.now) }
+    {
+        let mut out = Vec::new(self.alloc);
+        push_head(self.alloc, &mut out, &self.source.schemas().tables)?;
+        self.push_starts(&mut out)?;
+        self.push_histories(&mut out)?;
+        let status = self.push_verdicts(&mut out)?;
+        self.push_finals(&mut out)?;
+        push_status(self.alloc, &mut out, status)?;
+        Ok(RunReport {
+            text: Bytes { items: out },
+            status,
+        })
+    }
+
+    #[tactic(auto, unfolding(crate::specs::Report::starts_text))]
+    fn push_starts(&self, out: &mut Vec<u8>) -> R<()>
+        ensures { OnOk result (out.new.items ≡ out.old.items ++ starts_text self.now) }
+    {
+        let schemas = &self.source.schemas().tables;
+        push_tables(
+            self.alloc,
+            out,
+            schemas,
+            b"START",
+            b"source",
+            self.source.start(),
+        )?;
+        push_each_start(self.alloc, out, schemas, self.replicas.as_slice())
+    }
+
+    #[tactic(auto, unfolding(crate::specs::Report::histories_text))]
+    fn push_histories(&self, out: &mut Vec<u8>) -> R<()>
+        ensures { OnOk result (out.new.items ≡ out.old.items ++ histories_text self.now) }
+    {
+        let schemas = &self.source.schemas().tables;
+        push_log(self.alloc, out, schemas, self.source.history())?;
+        push_each_history(self.alloc, out, self.replicas.as_slice())
+    }
+
+    /// The VERDICT lines, and the status that they ask for.
+    #[tactic(auto, unfolding(crate::specs::Report::verdicts_text))]
+    fn push_verdicts(&self, out: &mut Vec<u8>) -> R<u8>
+        ensures text { OnOk result (out.new.items ≡ out.old.items ++ verdicts_text self.now) }
+        ensures status { IfOk result (λ status. status ≡ status_of self.now) }
+    {
+        let schemas = &self.source.schemas().tables;
+        let some = push_each_verdict(
+            self.alloc,
+            out,
+            schemas,
+            self.source.checks(),
+            self.replicas.as_slice(),
+        )?;
+        Ok(if some { 16 } else { 0 })
+    }
+
+    #[tactic(auto, unfolding(crate::specs::Report::finals_text))]
+    fn push_finals(&self, out: &mut Vec<u8>) -> R<()>
+        ensures { OnOk result (out.new.items ≡ out.old.items ++ finals_text self.now) }
+    {
+        let schemas = &self.source.schemas().tables;
+        let replicas = self.replicas.as_slice();
+        push_tables(
+            self.alloc,
+            out,
+            schemas,
+            b"FINAL",
+            b"source",
+            self.source.live(),
+        )?;
+        push_each_final(self.alloc, out, schemas, replicas)?;
+        push_each_equal(self.alloc, out, schemas, self.source.live(), replicas)
     }
 
     /// One turn of each actor: whether one of them moved.
@@ -183,11 +273,7 @@ impl World {
         if self.replicas.len() <= place {
             return Ok(false);
         }
-        let moved = apply_next(
-            self.alloc,
-            self.source.history(),
-            &mut self.replicas[place],
-        )?;
+        let moved = apply_next(self.alloc, self.source.history(), &mut self.replicas[place])?;
         Ok(moved)
     }
 }

@@ -11,8 +11,8 @@ pub returns-in_err-step-clause-err : goal.returns-in_err-step-clause-err
 returns-in_err-step-clause-err c =
     on_err_of c.from_residual-in_err-step.result
     (reaches_more c.args.self.now c.loop-place.self c.turn-in-loop-place.new.self
-      (took_reaches c.args.self.now c.loop-place.self (Tool ∷ workers_from 1 (take c.loop-place.place c.args.self.now.replicas)) c.loop-place.moved c.loop-place.invariant)
-      (reaches_none c.loop-place.self c.turn-in-loop-place.new.self c.in_err-step.ensures.err))
+    (took_reaches c.args.self.now c.loop-place.self (Tool ∷ workers_from 1 (take c.loop-place.place c.args.self.now.replicas)) c.loop-place.moved c.loop-place.invariant)
+    (reaches_none c.loop-place.self c.turn-in-loop-place.new.self c.in_err-step.ensures.err))
 
 pub loop-place-preserved : goal.loop-place-preserved
 loop-place-preserved c =

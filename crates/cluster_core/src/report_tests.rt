@@ -1,0 +1,184 @@
+use crate::report::{push_equal, push_head, push_log};
+use crate::report_verdicts::push_verdicts;
+use crate::texts::push_statement;
+use history::{CheckEntry, CheckRow, Checks, Entries, Entry, Origin};
+use ptc_statement::{Statement, Statements};
+use row_types::{
+    Bytes, Column, ColumnKind, Columns, Digest, DigestKind, Edge, Key, R, Row, Rows, Schema,
+    SchemaList, Span, Tables, Value,
+};
+use std::alloc::Global;
+use std::test::Fail;
+
+fn bytes(alloc: Global, text: &[u8]) -> R<Bytes> {
+    Ok(Bytes {
+        items: Vec::from_slice(alloc, text)?,
+    })
+}
+
+fn column(alloc: Global, name: &[u8], kind: ColumnKind, nullable: bool) -> R<Column> {
+    Ok(Column {
+        name: bytes(alloc, name)?,
+        kind,
+        nullable,
+    })
+}
+
+// t with a key of two columns, and columns with NULL and without
+fn schemas(alloc: Global) -> R<SchemaList> {
+    let mut columns = Columns::new(alloc);
+    columns.push(column(alloc, b"a", ColumnKind::BigInt, false)?)?;
+    columns.push(column(alloc, b"b", ColumnKind::Text { max: 4 }, false)?)?;
+    columns.push(column(alloc, b"v", ColumnKind::Int, false)?)?;
+    columns.push(column(alloc, b"w", ColumnKind::Int, true)?)?;
+    let mut schemas = SchemaList::new(alloc);
+    schemas.push(Schema {
+        name: bytes(alloc, b"t")?,
+        columns,
+        key_len: 2,
+    })?;
+    Ok(schemas)
+}
+
+// up to after the key 1, a'b
+fn span(alloc: Global) -> R<Span> {
+    let mut key = Key::new(alloc);
+    key.push(Value::Int(1))?;
+    key.push(Value::Text(bytes(alloc, b"a'b")?))?;
+    Ok(Span {
+        lo: Edge::Low,
+        hi: Edge::After(key),
+    })
+}
+
+fn digest(count: u64, byte: u8) -> Digest {
+    Digest {
+        count,
+        xor: [byte; 20],
+    }
+}
+
+fn check_entry(alloc: Global, chunk: u32, count: u64, master: Option<Digest>) -> R<CheckEntry> {
+    Ok(CheckEntry {
+        table: 0,
+        chunk,
+        row: CheckRow {
+            span: span(alloc)?,
+            kind: DigestKind::Md5,
+            this: digest(count, 16),
+            master,
+            position: 7,
+        },
+    })
+}
+
+fn check_statement(alloc: Global) -> R<Vec<u8>> {
+    let mut out = Vec::new(alloc);
+    let statement = Statement::Check {
+        table: 0,
+        chunk: 1,
+        span: span(alloc)?,
+        kind: DigestKind::Md5,
+    };
+    push_statement(alloc, &mut out, &schemas(alloc)?, &statement)?;
+    Ok(out)
+}
+
+fn head(alloc: Global) -> R<Vec<u8>> {
+    let mut out = Vec::new(alloc);
+    push_head(alloc, &mut out, &schemas(alloc)?)?;
+    Ok(out)
+}
+
+fn log(alloc: Global) -> R<Vec<u8>> {
+    let mut statements = Statements::new(alloc);
+    statements.push(Statement::ClearChecks { table: 0 })?;
+    statements.push(Statement::SetMaster {
+        table: 0,
+        chunk: 2,
+        kind: DigestKind::Md5,
+        master: digest(12, 171),
+    })?;
+    let mut log = Entries::new(alloc);
+    log.push(Entry {
+        origin: Origin::Checksum,
+        statements,
+    })?;
+    let mut out = Vec::new(alloc);
+    push_log(alloc, &mut out, &schemas(alloc)?, &log)?;
+    Ok(out)
+}
+
+// Four chunks: equal to the source's, other than it, without its checksum, and without a row.
+fn verdicts(alloc: Global) -> R<(Vec<u8>, bool)> {
+    let mut own = Checks::new(alloc);
+    own.push(check_entry(alloc, 1, 5, Some(digest(5, 16)))?)?;
+    own.push(check_entry(alloc, 2, 4, Some(digest(5, 16)))?)?;
+    own.push(check_entry(alloc, 3, 4, None)?)?;
+    let mut source = Checks::new(alloc);
+    source.push(check_entry(alloc, 4, 9, Some(digest(9, 16)))?)?;
+    let mut out = Vec::new(alloc);
+    let differs = push_verdicts(alloc, &mut out, &schemas(alloc)?, 3, &source, &own)?;
+    Ok((out, differs))
+}
+
+fn one_table(alloc: Global, value: Value) -> R<Tables> {
+    let mut row = Row::new(alloc);
+    row.push(value)?;
+    let mut rows = Rows::new(alloc);
+    rows.push(row)?;
+    let mut tables = Tables::new(alloc);
+    tables.push(rows)?;
+    Ok(tables)
+}
+
+fn equal(alloc: Global, ours: Value, theirs: Value) -> R<Vec<u8>> {
+    let mut out = Vec::new(alloc);
+    let source = one_table(alloc, ours)?;
+    let own = one_table(alloc, theirs)?;
+    push_equal(alloc, &mut out, &schemas(alloc)?, 2, &source, &own)?;
+    Ok(out)
+}
+
+#[test]
+fn statements_are_written(rt: HostRuntime) -> Result<(), Fail> {
+    let text = check_statement(rt.alloc())?;
+    assert!(rt;
+        text.as_slice() == b"CHECKSUM t CHUNK 1 FROM LOW TO AFTER (1, 'a''b') USING MD5".as_slice()
+    );
+    let text = log(rt.alloc())?;
+    assert!(rt;
+        text.as_slice()
+            == b"LOG 1 c\n  CLEARCHECKS t\n  SETMASTER t CHUNK 2 CNT 12 CRC 'abababababababababababababababab'\n".as_slice()
+    );
+    Ok(())
+}
+
+#[test]
+fn tables_are_written(rt: HostRuntime) -> Result<(), Fail> {
+    let text = head(rt.alloc())?;
+    assert!(rt;
+        text.as_slice()
+            == b"PTC REPORT 1\nTABLE t (a BIGINT KEY, b VARCHAR(4) KEY, v INT NOT NULL, w INT)\n".as_slice()
+    );
+    let text = equal(rt.alloc(), Value::Int(-5), Value::Int(-5))?;
+    assert!(rt; text.as_slice() == b"EQUAL r2 t\n".as_slice());
+    let text = equal(rt.alloc(), Value::Int(-5), Value::Null)?;
+    assert!(rt; text.as_slice() == b"UNEQUAL r2 t\n".as_slice());
+    Ok(())
+}
+
+#[test]
+fn verdicts_are_written(rt: HostRuntime) -> Result<(), Fail> {
+    let (text, differs) = verdicts(rt.alloc())?;
+    assert!(rt; differs);
+    assert!(rt;
+        text.as_slice()
+            == b"VERDICT r3 t 1 FROM LOW TO AFTER (1, 'a''b') AT 7 COUNT 5 5 SAME\n\
+          VERDICT r3 t 2 FROM LOW TO AFTER (1, 'a''b') AT 7 COUNT 5 4 DIFFER\n\
+          VERDICT r3 t 3 FROM LOW TO AFTER (1, 'a''b') AT 7 COUNT - 4 PENDING\n\
+          VERDICT r3 t 4 FROM LOW TO AFTER (1, 'a''b') AT 7 COUNT - - PENDING\n"
+                .as_slice()
+    );
+    Ok(())
+}
