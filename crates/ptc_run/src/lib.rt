@@ -1,13 +1,9 @@
-// A library with one function.
+//! The program's parts: the workload file, the words and the top call.
 #![tactic(auto)]
 
-ghost use Rattle.std.specs.Prelude.{◌≡◌};
-ghost use Rattle.ptc_run.specs.Echo.{echo_of};
+pub mod first_form;
+pub mod kept_rows;
+pub mod line_cuts;
+pub mod row_lines;
 
-// The `ensures` clause is the contract: what `echo` returns is `echo_of` of its argument, a definition
-// in `specs/Echo.antt`, which a caller's clause can cite too.
-pub fn echo(x: usize) -> usize
-    ensures { result ≡ echo_of x }
-{
-    x
-}
+pub use first_form::read;

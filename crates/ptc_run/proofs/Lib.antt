@@ -1,0 +1,9 @@
+pub mod LineLemmas
+pub mod NumberLemmas
+pub mod RowLemmas
+pub mod ListLemmas
+pub mod TableLemmas
+pub mod WorkloadLemmas
+pub mod FormLemmas
+pub mod KeepLemmas
+pub mod ReadLemmas

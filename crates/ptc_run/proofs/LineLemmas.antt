@@ -1,0 +1,128 @@
+-- Lines of a text, and cuts at a stop.
+use Rattle.std.proofs.Common.{◌≡◌, ℕ, ◌+◌, ◌<◌, ◌≤◌, List, [], ◌∷◌, ◌++◌, length, get_or, take, drop, refl, sym, ap, subst, ◌∙◌, append_assoc, arith, inl, inr, take-append-drop, take_at, length-append, length-take, length-drop}
+use Rattle.std.specs.List.{AllByRecursion, concat, onto_first}
+use Rattle.std.proofs.lemmas.Bool.{ne_eqb}
+use Rattle.std.proofs.lemmas.Bool.Decides.{eqb_tells}
+use Rattle.std.proofs.lemmas.List.{take_more, drop_more, take_all, drop_all}
+use Rattle.ptc_run.specs.Lines.{lines_of, IsFreeOf}
+
+-- ---- texts without a stop
+
+pub free-append : (stop : ℕ) (xs ys : List ℕ) → IsFreeOf stop xs → IsFreeOf stop ys → IsFreeOf stop (xs ++ ys)
+free-append stop [] ys h k = k
+free-append stop (x ∷ xs) ys h k = (h.0, free-append stop xs ys h.1 k)
+
+pub free_more : (stop : ℕ) (xs : List ℕ) (i : ℕ) → i < length xs → IsFreeOf stop (take i xs) → (get_or xs i 0 ≡ stop → ⊥) → IsFreeOf stop (take (i + 1) xs)
+free_more stop xs i lt h ne = rw (take_more xs i 0 lt) (free-append stop (take i xs) (get_or xs i 0 ∷ []) h (ne, tt))
+
+pub free_all : (stop : ℕ) (xs : List ℕ) (i : ℕ) → length xs ≤ i → IsFreeOf stop (take i xs) → IsFreeOf stop xs
+free_all stop xs i le h = subst (IsFreeOf stop) (take_all i xs le) h
+
+pub stop_at : (stop : ℕ) (xs : List ℕ) (i : ℕ) → i < length xs → get_or xs i 0 ≡ stop → drop i xs ≡ stop ∷ drop (i + 1) xs
+stop_at stop xs i lt e = drop_more xs i 0 lt ∙ ap (λ (x : ℕ). x ∷ drop (i + 1) xs) e
+
+pub parts_at : (stop : ℕ) (xs : List ℕ) (i : ℕ) → drop i xs ≡ stop ∷ drop (i + 1) xs → xs ≡ take i xs ++ stop ∷ drop (i + 1) xs
+parts_at stop xs i e = sym (take-append-drop i xs) ∙ ap (λ (ys : List ℕ). take i xs ++ ys) e
+
+-- a text is cut at its first stop in one way
+pub cut_once : (stop : ℕ) (xs ys xr yr : List ℕ) → IsFreeOf stop xs → IsFreeOf stop ys → xs ++ stop ∷ xr ≡ ys ++ stop ∷ yr → (xs ≡ ys) × (xr ≡ yr)
+cut_once stop [] [] xr yr h k e = (refl, cc)
+cut_once stop [] (y ∷ ys) xr yr h k e = absurd (k.0 cc)
+cut_once stop (x ∷ xs) [] xr yr h k e = absurd (h.0 cc)
+cut_once stop (x ∷ xs) (y ∷ ys) xr yr h k e =
+    let tails : xs ++ stop ∷ xr ≡ ys ++ stop ∷ yr = cc in
+    let more = cut_once stop xs ys xr yr h.1 k.1 tails in
+    let rests = more.0 in
+    let heads : x ≡ y = cc in
+    (cc, more.1)
+
+-- a text without the stop is not cut there
+pub never_cut : (stop : ℕ) (xs ys yr : List ℕ) → IsFreeOf stop xs → xs ≡ ys ++ stop ∷ yr → ⊥
+never_cut stop [] [] yr h e = absurd cc
+never_cut stop [] (y ∷ ys) yr h e = absurd cc
+never_cut stop (x ∷ xs) [] yr h e = h.0 cc
+never_cut stop (x ∷ xs) (y ∷ ys) yr h e = let tails : xs ≡ ys ++ stop ∷ yr = cc in never_cut stop xs ys yr h.1 tails
+
+-- ---- lines
+
+-- a line with its line feed
+pub record IsLine (line : List ℕ) : Type 0 where
+  pub front : List ℕ
+  pub free : IsFreeOf 10 front
+  pub text : line ≡ front ++ 10 ∷ []
+
+pub lines_of-line : (front rest : List ℕ) → IsFreeOf 10 front → lines_of (front ++ 10 ∷ rest) ≡ (front ++ 10 ∷ []) ∷ lines_of rest
+unfolding lines_of
+lines_of-line [] rest h = refl
+lines_of-line (b ∷ bs) rest h = rw (ne_eqb b 10 h.0, lines_of-line bs rest h.1) refl
+
+pub lines_of-last : (b : ℕ) (bs : List ℕ) → IsFreeOf 10 (b ∷ bs) → lines_of (b ∷ bs) ≡ (b ∷ bs) ∷ []
+unfolding lines_of
+lines_of-last b [] h = rw (ne_eqb b 10 h.0) refl
+lines_of-last b (c ∷ cs) h = rw (ne_eqb b 10 h.0, lines_of-last c cs h.1) refl
+
+pub lines_of_free : (bytes : List ℕ) → IsFreeOf 10 bytes → (bytes ≡ [] → ⊥) → lines_of bytes ≡ bytes ∷ []
+lines_of_free [] h ne = absurd (ne refl)
+lines_of_free (b ∷ bs) h ne = lines_of-last b bs h
+
+pub lines_of-nil : lines_of [] ≡ []
+unfolding lines_of
+lines_of-nil = refl
+
+concat-onto_first : (b : ℕ) (ls : List (List ℕ)) → concat (onto_first b ls) ≡ b ∷ concat ls
+concat-onto_first b [] = refl
+concat-onto_first b (l ∷ ls) = refl
+
+pub concat-lines_of : (bytes : List ℕ) → concat (lines_of bytes) ≡ bytes
+unfolding lines_of
+concat-lines_of [] = refl
+concat-lines_of (b ∷ bs) =
+    elim (eqb_tells b 10) [
+      | inl h ↦ rw h.0 (ap (λ (xs : List ℕ). b ∷ xs) (concat-lines_of bs))
+      | inr h ↦ rw h.0 (concat-onto_first b (lines_of bs) ∙ ap (λ (xs : List ℕ). b ∷ xs) (concat-lines_of bs))
+    ]
+
+pub lines_of-concat : (ls : List (List ℕ)) → AllByRecursion IsLine ls → lines_of (concat ls) ≡ ls
+lines_of-concat [] h = lines_of-nil
+lines_of-concat (l ∷ ls) h =
+    let grouped : concat (l ∷ ls) ≡ h.0.front ++ 10 ∷ concat ls = ap (λ (x : List ℕ). x ++ concat ls) h.0.text ∙ append_assoc h.0.front (10 ∷ []) (concat ls) in
+    ap lines_of grouped ∙ lines_of-line h.0.front (concat ls) h.0.free ∙ ap (λ (x : List ℕ). x ∷ lines_of (concat ls)) (sym h.0.text) ∙ ap (λ (xs : List (List ℕ)). l ∷ xs) (lines_of-concat ls h.1)
+
+-- the first line goes to its line feed
+pub first_at : (bytes : List ℕ) (at : ℕ) → at < length bytes → IsFreeOf 10 (take at bytes) → drop at bytes ≡ 10 ∷ drop (at + 1) bytes → lines_of bytes ≡ take (at + 1) bytes ∷ lines_of (drop (at + 1) bytes)
+first_at bytes at lt h e =
+    let front : List ℕ = take at bytes in
+    let rest : List ℕ = drop (at + 1) bytes in
+    let parts : bytes ≡ front ++ 10 ∷ rest = parts_at 10 bytes at e in
+    let len : length (front ++ 10 ∷ []) ≡ at + 1 = omega (arith, length-append front (10 ∷ []), length-take at bytes) in
+    let line : take (at + 1) bytes ≡ front ++ 10 ∷ [] = ap (take (at + 1)) (parts ∙ sym (append_assoc front (10 ∷ []) rest)) ∙ take_at (front ++ 10 ∷ []) rest (at + 1) len in
+    ap lines_of parts ∙ lines_of-line front rest h ∙ ap (λ (x : List ℕ). x ∷ lines_of rest) (sym line)
+
+-- ---- the steps of the code
+
+pub first_parts : (bytes line rest : List ℕ) (at : ℕ) → line ≡ take (at + 1) bytes → rest ≡ drop (at + 1) bytes → IsFreeOf 10 (take at bytes) × (at < length bytes) × (drop at bytes ≡ 10 ∷ drop (at + 1) bytes) → (lines_of bytes ≡ line ∷ lines_of rest) × (length rest < length bytes)
+first_parts bytes line rest at l r h = (
+  first_at bytes at h.1 h.0 h.2 ∙ ap (λ (x : List ℕ). x ∷ lines_of (drop (at + 1) bytes)) (sym l) ∙ ap (λ (x : List ℕ). line ∷ lines_of x) (sym r),
+  let at_most = h.1 in omega (arith, ap length r, length-drop (at + 1) bytes),
+)
+
+pub first_whole : (bytes line rest : List ℕ) → line ≡ take (length bytes) bytes → rest ≡ drop (length bytes) bytes → IsFreeOf 10 bytes → (length bytes ≡ 0 → ⊥) → (lines_of bytes ≡ line ∷ lines_of rest) × (length rest < length bytes)
+first_whole bytes line rest l r h some =
+    let ne : bytes ≡ [] → ⊥ = λ e. some (ap length e) in
+    let line-is : line ≡ bytes = l ∙ take_all (length bytes) bytes (omega arith) in
+    let rest-is : rest ≡ [] = r ∙ drop_all (length bytes) bytes (omega arith) in (
+      lines_of_free bytes h ne ∙ ap (λ (x : List ℕ). x ∷ []) (sym line-is) ∙ ap (λ (x : List (List ℕ)). line ∷ x) (sym lines_of-nil ∙ ap lines_of (sym rest-is)),
+      omega (arith, ap length rest-is),
+    )
+
+pub no_line : (bytes line : List ℕ) (more : List (List ℕ)) → bytes ≡ [] → lines_of bytes ≡ line ∷ more → ⊥
+no_line bytes line more e h = let none : [] ≡ line ∷ more = sym lines_of-nil ∙ ap lines_of (sym e) ∙ h in cc
+
+pub other_line : (bytes line expected : List ℕ) (rest more : List (List ℕ)) → lines_of bytes ≡ line ∷ rest → (line ≡ expected → ⊥) → lines_of bytes ≡ expected ∷ more → ⊥
+other_line bytes line expected rest more h ne k = ne (let e : line ∷ rest ≡ expected ∷ more = sym h ∙ k in cc)
+
+pub front_is : (bytes beginning more front : List ℕ) → front ≡ take (length beginning) bytes → bytes ≡ beginning ++ more → front ≡ beginning
+front_is bytes beginning more front h e = h ∙ ap (take (length beginning)) e ∙ take_at beginning more (length beginning) refl
+
+pub long_enough : (bytes beginning more : List ℕ) → bytes ≡ beginning ++ more → length bytes < length beginning → ⊥
+long_enough bytes beginning more e lt = omega (arith, ap length e, length-append beginning more)

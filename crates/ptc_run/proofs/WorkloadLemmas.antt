@@ -1,0 +1,105 @@
+-- The workload of allowed rows keeps the rules.
+use Rattle.std.proofs.Common.{◌≡◌, ℕ, ℤ, List, [], ◌∷◌, map, refl, sym, ap, subst, ◌∙◌, Ordering, Less, Equal, Greater, int_cmp, FitsSigned, w64, lit≤}
+use Rattle.std.specs.Ordering.{match_ordering, ordering_then, ordering_reverse}
+use Rattle.std.specs.List.{AllByRecursion}
+use Rattle.std.specs.BTreeMap.{insert_entry}
+use Rattle.std.specs.Cmp.{int_cmp_total}
+use Rattle.row_types.specs.declared.values.Value.{Value}
+use Rattle.row_types.specs.declared.values.Value.TheVariants.{Int}
+use Rattle.row_types.specs.Fit.{with_rows, IsTable, IsBelowAll, IsSchema}
+use Rattle.cluster_core.specs.declared.workload.Workload.{Workload}
+use Rattle.cluster_core.specs.Workload.{IsWorkload}
+use Rattle.ptc_run.specs.declared.row_lines.RowLine.{RowLine}
+use Rattle.ptc_run.specs.RowLines.{NumbersFit, is_for_source, is_for_replica}
+use Rattle.ptc_run.specs.FirstForm.{first_schema, values_of, table_of, source_rows, replica_rows, workload_of, Allowed, IsWorkloadText}
+use Rattle.ptc_run.specs.KeptRows.{entry_values}
+use Rattle.ptc_run.proofs.ListLemmas.{all_weaker, all_filter}
+use Rattle.ptc_run.proofs.TableLemmas.{insert_is}
+
+-- rows of two numbers as entries, put in one after the other
+entries_onto : List (ℤ × ℤ) → List RowLine → List (ℤ × ℤ)
+entries_onto entries [] = entries
+entries_onto entries (row ∷ rows) = entries_onto (insert_entry int_cmp entries row.key row.value) rows
+
+table_onto : (entries : List (ℤ × ℤ)) (rows : List RowLine) → with_rows first_schema (map entry_values entries) (map values_of rows) ≡ map entry_values (entries_onto entries rows)
+unfolding entries_onto
+table_onto entries [] = refl
+table_onto entries (row ∷ rows) = ap (λ (table : List (List Value)). with_rows first_schema table (map values_of rows)) (sym (insert_is row.key row.value entries)) ∙ table_onto (insert_entry int_cmp entries row.key row.value) rows
+
+-- ---- entries by rising key
+
+abbrev EntryFits : ℤ × ℤ → Type 0
+EntryFits entry = FitsSigned w64 entry.0 × FitsSigned w64 entry.1
+
+abbrev IsBelow : ℤ → List (ℤ × ℤ) → Type 0
+IsBelow key = AllByRecursion (λ (entry : ℤ × ℤ). int_cmp key entry.0 ≡ Less)
+
+abbrev AreEntries : List (ℤ × ℤ) → Type 0
+AreEntries [] = Unit {0}
+AreEntries (entry ∷ entries) = EntryFits entry × IsBelow entry.0 entries × AreEntries entries
+
+below_at : (o : Ordering) (low key value : ℤ) (entry : ℤ × ℤ) (entries rest : List (ℤ × ℤ)) → int_cmp low key ≡ Less → IsBelow low (entry ∷ entries) → IsBelow low rest → IsBelow low (match_ordering o ((key, value) ∷ entry ∷ entries) ((entry.0, value) ∷ entries) (entry ∷ rest))
+below_at Less low key value entry entries rest lt h ih = (lt, h)
+below_at Equal low key value entry entries rest lt h ih = h
+below_at Greater low key value entry entries rest lt h ih = (h.0, ih)
+
+below_insert : (low key value : ℤ) (entries : List (ℤ × ℤ)) → int_cmp low key ≡ Less → IsBelow low entries → IsBelow low (insert_entry int_cmp entries key value)
+below_insert low key value [] lt h = (lt, tt)
+below_insert low key value (entry ∷ entries) lt h = below_at (int_cmp key entry.0) low key value entry entries (insert_entry int_cmp entries key value) lt h (below_insert low key value entries lt h.1)
+
+entries_at : (o : Ordering) (key value : ℤ) (entry : ℤ × ℤ) (entries rest : List (ℤ × ℤ)) → int_cmp key entry.0 ≡ o → EntryFits (key, value) → AreEntries (entry ∷ entries) → (int_cmp entry.0 key ≡ Less → IsBelow entry.0 rest) → AreEntries rest
+    → AreEntries (match_ordering o ((key, value) ∷ entry ∷ entries) ((entry.0, value) ∷ entries) (entry ∷ rest))
+entries_at Less key value entry entries rest e fits h below ih =
+    (fits, (e, all_weaker (λ (other : ℤ × ℤ). int_cmp entry.0 other.0 ≡ Less) (λ (other : ℤ × ℤ). int_cmp key other.0 ≡ Less) (λ other lt. int_cmp_total.trans key entry.0 other.0 e lt) entries h.1), h)
+entries_at Equal key value entry entries rest e fits h below ih = ((h.0.0, fits.1), h.1, h.2)
+entries_at Greater key value entry entries rest e fits h below ih = (h.0, below (int_cmp_total.antisymm entry.0 key ∙ ap ordering_reverse e), ih)
+
+entries_insert : (key value : ℤ) (entries : List (ℤ × ℤ)) → EntryFits (key, value) → AreEntries entries → AreEntries (insert_entry int_cmp entries key value)
+entries_insert key value [] fits h = (fits, tt, tt)
+entries_insert key value (entry ∷ entries) fits h =
+    entries_at (int_cmp key entry.0) key value entry entries (insert_entry int_cmp entries key value) refl fits h (λ lt. below_insert entry.0 key value entries lt h.1) (entries_insert key value entries fits h.2)
+
+entries_all : (entries : List (ℤ × ℤ)) (rows : List RowLine) → AllByRecursion NumbersFit rows → AreEntries entries → AreEntries (entries_onto entries rows)
+unfolding entries_onto
+entries_all entries [] fits h = h
+entries_all entries (row ∷ rows) fits h = entries_all (insert_entry int_cmp entries row.key row.value) rows fits.1 (entries_insert row.key row.value entries fits.0 h)
+
+-- ---- tables
+
+below_rows : (key value : ℤ) (entries : List (ℤ × ℤ)) → IsBelow key entries → IsBelowAll first_schema (Int key ∷ Int value ∷ []) (map entry_values entries)
+unfolding first_schema
+below_rows key value [] h = tt
+below_rows key value (entry ∷ entries) h = (ap (λ (o : Ordering). ordering_then o Equal) h.0, below_rows key value entries h.1)
+
+entries_table : (entries : List (ℤ × ℤ)) → AreEntries entries → IsTable first_schema (map entry_values entries)
+unfolding first_schema
+entries_table [] h = tt
+entries_table (entry ∷ entries) h = ((h.0.0, (h.0.1, tt)), below_rows entry.0 entry.1 entries h.1, entries_table entries h.2)
+
+pub table_of-IsTable : (rows : List RowLine) → AllByRecursion NumbersFit rows → IsTable first_schema (table_of rows)
+table_of-IsTable rows fits = subst (IsTable first_schema) (sym (table_onto [] rows)) (entries_table (entries_onto [] rows) (entries_all [] rows fits tt))
+
+pub first_schema-IsSchema : IsSchema first_schema
+unfolding first_schema
+first_schema-IsSchema = record {
+  key = lit≤ tt;
+  most = lit≤ tt;
+  within = lit≤ tt;
+  lengths = (tt, (tt, tt));
+  not_null = (refl, tt);
+}
+
+pub workload_of-IsWorkload : (rows : List RowLine) → Allowed rows → IsWorkload (workload_of rows)
+workload_of-IsWorkload rows h = record {
+  some_table = lit≤ tt;
+  most_tables = lit≤ tt;
+  schemas = (first_schema-IsSchema, tt);
+  some_replica = lit≤ tt;
+  most_replicas = lit≤ tt;
+  source = (table_of-IsTable (source_rows rows) (all_filter NumbersFit (λ (row : RowLine). is_for_source row.node) rows h.numbers), tt);
+  copies = ((table_of-IsTable (replica_rows rows) (all_filter NumbersFit (λ (row : RowLine). is_for_replica row.node) rows h.numbers), tt), tt);
+  each_copied = refl;
+}
+
+pub text-IsWorkload : (bytes : List ℕ) (w : Workload) → IsWorkloadText bytes w → IsWorkload w
+text-IsWorkload bytes w h = subst IsWorkload (sym h.workload) (workload_of-IsWorkload h.rows h.allowed)
