@@ -8,7 +8,7 @@ mod report;
 pub mod report_laws;
 mod report_nodes;
 pub mod report_verdicts;
-mod texts;
+pub mod texts;
 pub mod workload;
 pub mod worlds;
 

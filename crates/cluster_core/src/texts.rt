@@ -10,14 +10,16 @@ use ptc_statement::Statement;
 use row_types::{Column, ColumnKind, Digest, DigestKind, Edge, R, Schema, SchemaList, Span, Value};
 use std::alloc::Global;
 
-pub(crate) fn push_bytes(out: &mut Vec<u8>, bytes: &[u8]) -> R<()>
+/// Puts bytes at the end of a text.
+pub fn push_bytes(out: &mut Vec<u8>, bytes: &[u8]) -> R<()>
     ensures { OnOk result (out.new.items ≡ out.old.items ++ bytes.now) }
 {
     out.extend_from_slice(bytes)?;
     Ok(())
 }
 
-pub(crate) fn push_number(alloc: Global, out: &mut Vec<u8>, number: u64) -> R<()>
+/// Puts a number in decimal digits at the end of a text.
+pub fn push_number(alloc: Global, out: &mut Vec<u8>, number: u64) -> R<()>
     ensures { OnOk result (out.new.items ≡ out.old.items ++ decimal number) }
 {
     let digits = number.to_string(alloc)?;

@@ -4,6 +4,7 @@ pub mod RowLemmas
 pub mod ListLemmas
 pub mod TableLemmas
 pub mod WorkloadLemmas
+pub mod DueLemmas
 pub mod FormLemmas
 pub mod KeepLemmas
 pub mod ReadLemmas

@@ -1,9 +1,11 @@
-//! The program's parts: the workload file, the words and the top call.
+//! The top call of `ptc`: the words, the file of the first form, the run and its report.
 #![tactic(auto)]
 
 pub mod first_form;
-pub mod kept_rows;
-pub mod line_cuts;
+mod kept_rows;
+mod line_cuts;
 pub mod row_lines;
+pub mod top;
+pub mod words;
 
-pub use first_form::read;
+pub use top::ptc;
