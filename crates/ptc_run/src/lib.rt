@@ -6,4 +6,5 @@ pub mod kept_rows;
 pub mod line_cuts;
 pub mod row_lines;
 
-pub use first_form::read;
+pub use first_form::{FileFault, LimitKind, read};
+pub use row_lines::{RowLine, RowNode};
