@@ -70,7 +70,8 @@ const MOST_BYTES: usize = 16_777_216;
 /// What stands behind the three fixed lines, or the number of the first of them that is not there.
 fn behind_head(bytes: &[u8]) -> Result<&[u8], u32>
     ensures { MatchResult result
-        (λ rest. (lines_of bytes.now ≡ head_lines ++ lines_of rest.now) × (length rest.now ≤ length bytes.now))
+        (λ rest. (lines_of bytes.now ≡ head_lines ++ lines_of rest.now)
+        × (length rest.now ≤ length bytes.now))
         (λ number. IsEarly bytes.now number) }
 {
     let Some(rest) = behind_line(bytes, b"PTC WORKLOAD 1\n") else {
@@ -132,7 +133,8 @@ fn named(alloc: Global, name: &[u8]) -> R<Bytes>
 }
 
 fn column(alloc: Global, name: &[u8], nullable: bool) -> R<Column>
-    ensures { IfOk result (λ column. column ≡ record { name = name.now; kind = BigInt; nullable = nullable }) }
+    ensures { IfOk result (λ column.
+        column ≡ record { name = name.now; kind = BigInt; nullable = nullable }) }
 {
     Ok(Column {
         name: named(alloc, name)?,
@@ -206,9 +208,11 @@ pub fn read(alloc: Global, bytes: &[u8]) -> Result<Workload, FileFault>
 
 /// A text has at most one workload, which keeps the rules, or at most one early line.
 pub fn one_reading()
-    ensures one_workload { (bytes : List ℕ) (v w : WholeWorkload) → IsWorkloadText bytes v → IsWorkloadText bytes w → v ≡ w }
+    ensures one_workload { (bytes : List ℕ) (v w : WholeWorkload) →
+        IsWorkloadText bytes v → IsWorkloadText bytes w → v ≡ w }
     ensures one_line { (bytes : List ℕ) (m n : ℕ) → IsEarly bytes m → IsEarly bytes n → m ≡ n }
-    ensures never_both { (bytes : List ℕ) (number : ℕ) (w : WholeWorkload) → IsEarly bytes number → IsWorkloadText bytes w → ⊥ }
+    ensures never_both { (bytes : List ℕ) (number : ℕ) (w : WholeWorkload) →
+        IsEarly bytes number → IsWorkloadText bytes w → ⊥ }
     ensures keeps_rules { (bytes : List ℕ) (w : WholeWorkload) → IsWorkloadText bytes w → IsWorkload w }
 {}
 

@@ -7,7 +7,8 @@ ghost use Rattle.ptc_run.specs.Lines.{lines_of, IsFreeOf};
 #[tactic(auto, using(crate::proofs::LineLemmas::free_more, crate::proofs::LineLemmas::free_all, crate::proofs::LineLemmas::stop_at))]
 fn stop_of(bytes: &[u8], stop: u8) -> Option<usize>
     ensures { MatchOption result (IsFreeOf stop bytes.now) (λ at.
-        IsFreeOf stop (take at bytes.now) × (at < length bytes.now) × (drop at bytes.now ≡ stop ∷ drop (at + 1) bytes.now)) }
+        IsFreeOf stop (take at bytes.now) × (at < length bytes.now)
+        × (drop at bytes.now ≡ stop ∷ drop (at + 1) bytes.now)) }
 {
     for (i, byte) in bytes.iter().enumerate() {
         if *byte == stop {
@@ -33,7 +34,8 @@ pub fn cut_at(bytes: &[u8], stop: u8) -> Option<(&[u8], &[u8])>
 /// The first line, with its line feed where it has one, and what stands behind it.
 pub fn first_line(bytes: &[u8]) -> Option<(&[u8], &[u8])>
     ensures { MatchOption result (bytes.now ≡ []) (λ parts.
-        (lines_of bytes.now ≡ parts.0.now ∷ lines_of parts.1.now) × (length parts.1.now < length bytes.now)) }
+        (lines_of bytes.now ≡ parts.0.now ∷ lines_of parts.1.now)
+        × (length parts.1.now < length bytes.now)) }
 {
     if bytes.is_empty() {
         return None;
@@ -47,7 +49,8 @@ pub fn first_line(bytes: &[u8]) -> Option<(&[u8], &[u8])>
 /// What stands behind this first line, if it is the first line.
 #[tactic(auto, using(crate::proofs::LineLemmas::no_line, crate::proofs::LineLemmas::other_line))]
 pub fn behind_line<'a>(bytes: &'a [u8], expected: &[u8]) -> Option<&'a [u8]>
-    ensures { MatchOption result ((more : List (List ℕ)) → lines_of bytes.now ≡ expected.now ∷ more → ⊥) (λ rest.
+    ensures { MatchOption result
+        ((more : List (List ℕ)) → lines_of bytes.now ≡ expected.now ∷ more → ⊥) (λ rest.
         (lines_of bytes.now ≡ expected.now ∷ lines_of rest.now) × (length rest.now < length bytes.now)) }
 {
     let Some((line, rest)) = first_line(bytes) else {
