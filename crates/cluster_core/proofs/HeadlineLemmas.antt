@@ -1,5 +1,5 @@
 -- What holds after each turn of a run, and so of the report at its end.
-use Rattle.std.proofs.Common.{◌≡◌, ◌≢◌, ◌⊎◌, ℕ, zero, suc, ◌+◌, ◌-◌, ◌≤◌, ◌==◌, Bool, true, false, cond, List, [], ◌∷◌, ◌++◌, length, map, Option, None, Some, option_map, IfSome, refl, ap, ◌∙◌, sym, subst, arith, append_assoc, length-append, nat_lt}
+use Rattle.std.proofs.Common.{◌≡◌, ◌≢◌, ◌⊎◌, ℕ, zero, suc, ◌+◌, ◌-◌, ◌<◌, ◌≤◌, ◌==◌, Bool, true, false, cond, List, [], ◌∷◌, ◌++◌, length, map, Option, None, Some, option_map, IfSome, refl, ap, ◌∙◌, sym, subst, arith, append_assoc, length-append}
 use Rattle.std.specs.Prelude.{slice_set, unwrap_or, option_and_then}
 use Rattle.std.specs.List.{AllByRecursion, slice_get}
 use Rattle.row_types.specs.declared.values.Value.{Value}
@@ -21,7 +21,7 @@ use Rattle.cluster_core.specs.Node.{NodeView, replayed_of, logged}
 use Rattle.cluster_core.specs.World.{WorldView, fresh, begun, by_tool, whole_table, tool_logged, published, next_phase, tool_turn_in, next_applied, worker_turn, turn, after, after_turns, workers_from, order, round, rounds, IsStill, EndsIn}
 use Rattle.cluster_core.specs.declared.report_verdicts.VerdictLine.{VerdictLine}
 use Rattle.cluster_core.specs.Report.{verdict_line, all_chunks, replica_verdicts, verdicts_from, verdicts_of}
-use Rattle.cluster_core.specs.Headline.{LineHolds, AppliedAll, RunHolds}
+use Rattle.cluster_core.specs.Headline.{LineHolds, IsOfWholeTable, HasLine, AppliedAll, RunHolds}
 use Rattle.cluster_core.specs.Workload.{IsWorkload}
 use Rattle.cluster_core.specs.declared.workload.Workload.{Workload}
 use Rattle.cluster_core.specs.declared.actors.Actor.{Actor}
@@ -29,7 +29,8 @@ use Rattle.cluster_core.specs.declared.actors.Actor.TheVariants.{Tool, Worker}
 use Rattle.cluster_core.specs.declared.actors.ToolPhase.{ToolPhase}
 use Rattle.cluster_core.specs.declared.actors.ToolPhase.TheVariants.{Clear, Check, Master, Finished}
 use Rattle.cluster_core.proofs.EachLemmas.{each_more, each_append, each_at, each_set, each_map, each_always, map_set_same, map_back, slice_get_none, slice_get_after}
-use Rattle.cluster_core.proofs.MasterLemmas.{IsMastered, AllMastered, SameMasters, OthersMastered, PhaseHolds, IsThere, none_mastered, cleared_mastered, checked_mastered, mastered_mastered, same_masters, mastered_there, each_placed, mastered_known}
+use Rattle.cluster_core.proofs.MasterLemmas.{IsMastered, SameMasters, IsThere, same_masters, mastered_there, each_placed, mastered_known}
+use Rattle.cluster_core.proofs.TableLemmas.{IsWhole, RowsHold, no_rows, cleared_rows, checked_rows, published_rows, told_there, replica_has_line}
 
 -- a replica follows the log, over the source's schemas
 pub record ReplicaHolds (schemas : List Schema) (log : List Entry) (node : NodeView) : Type 0 where
@@ -43,7 +44,7 @@ pub record Holds (workload : Workload) (w : WorldView) : Type 0 where
   pub replica_starts : map (λ (node : NodeView). node.start) w.replicas ≡ workload.copies
   pub replicas : AllByRecursion (ReplicaHolds workload.schemas.tables w.source.history) w.replicas
   pub masters : MastersAreTrue w.source.schemas w.source.start w.source.history
-  pub phase : PhaseHolds w.phase (replayed_of w.source).checks
+  pub rows : RowsHold w.phase (length w.source.schemas) (replayed_of w.source).checks
 
 pub begun_holds : (workload : Workload) → Holds workload (begun workload)
 begun_holds workload = record {
@@ -54,7 +55,7 @@ begun_holds workload = record {
       (each_always (λ (start : List (List (List Value))). ReplicaHolds workload.schemas.tables [] (fresh workload.schemas.tables start)) workload.copies
       (λ start. record { schemas_are = refl; follows = tt }));
   masters = tt;
-  phase = none_mastered;
+  rows = no_rows (length workload.schemas.tables);
 }
 
 -- the check rows of a node after the tool's statement
@@ -66,9 +67,9 @@ logged_checks node statement = ap (λ (x : Replayed). x.checks) (fold_more node.
 logged_holds : (workload : Workload) (w : WorldView) (statement : Statement) (next : ToolPhase)
     → Holds workload w
     → IsTrueMaster statement (replayed_of w.source)
-    → PhaseHolds next (checks_after w.source.schemas (length w.source.history + 1) statement (replayed_of w.source))
+    → RowsHold next (length w.source.schemas) (checks_after w.source.schemas (length w.source.history + 1) statement (replayed_of w.source))
     → Holds workload (tool_logged statement next w)
-logged_holds workload w statement next before true_one checks = record {
+logged_holds workload w statement next before true_one rows = record {
   schemas = before.schemas;
   source_start = before.source_start;
   replica_starts = before.replica_starts;
@@ -82,45 +83,37 @@ logged_holds workload w statement next before true_one checks = record {
       })
       before.replicas;
   masters = masters_more w.source.schemas w.source.start w.source.history (by_tool statement) statement before.masters refl true_one;
-  phase = subst (PhaseHolds next) (sym (logged_checks w.source statement)) checks;
+  rows = subst (RowsHold next (length w.source.schemas)) (sym (logged_checks w.source statement)) rows;
 }
-
-next_phase_holds : (table : ℕ) (w : WorldView) (checks : List CheckEntry) → AllMastered checks → PhaseHolds (next_phase table w) checks
-next_phase_holds table w checks all =
-    elim (nat_lt (table + 1) (length w.source.schemas)) as (λ b. PhaseHolds (cond b (Clear (table + 1)) Finished) checks) [
-      | true ↦ all
-      | false ↦ all
-    ]
 
 published_holds : (workload : Workload) (table : ℕ) (row : Option CheckRow) (w v : WorldView)
     → check_at table 1 (replayed_of w.source).checks ≡ row
-    → OthersMastered table (replayed_of w.source).checks
+    → RowsHold (Master table) (length w.source.schemas) (replayed_of w.source).checks
     → Holds workload w
     → published table row w ≡ Some v
     → Holds workload v
-published_holds workload table None w v stands others before is = absurd (cc)
-published_holds workload table (Some row) w v stands others before is =
+published_holds workload table None w v stands rows before is = absurd (cc)
+published_holds workload table (Some row) w v stands rows before is =
     let same : tool_logged (SetMaster table 1 row.kind row.this) (next_phase table w) w ≡ v = cc in
     subst (Holds workload) same
     (logged_holds workload w (SetMaster table 1 row.kind row.this) (next_phase table w) before (row, stands, refl, refl)
-    (next_phase_holds table w (checks_after w.source.schemas (length w.source.history + 1) (SetMaster table 1 row.kind row.this) (replayed_of w.source))
-    (mastered_mastered table row.this (replayed_of w.source).checks others)))
+    (published_rows table (length w.source.schemas) row.this (replayed_of w.source).checks rows))
 
 tool_holds : (workload : Workload) (phase : ToolPhase) (w v : WorldView)
-    → PhaseHolds phase (replayed_of w.source).checks
+    → RowsHold phase (length w.source.schemas) (replayed_of w.source).checks
     → Holds workload w
     → tool_turn_in phase w ≡ Some v
     → Holds workload v
 tool_holds workload (Clear table) w v rows before is =
     let same : tool_logged (ClearChecks table) (Check table) w ≡ v = cc in
     subst (Holds workload) same
-    (logged_holds workload w (ClearChecks table) (Check table) before tt (cleared_mastered table (replayed_of w.source).checks rows))
+    (logged_holds workload w (ClearChecks table) (Check table) before tt (cleared_rows table (length w.source.schemas) (replayed_of w.source).checks rows))
 tool_holds workload (Check table) w v rows before is =
     let same : tool_logged (CheckStatement table 1 whole_table Md5) (Master table) w ≡ v = cc in
     subst (Holds workload) same
-    (logged_holds workload w (CheckStatement table 1 whole_table Md5) (Master table) before tt (checked_mastered table _ (replayed_of w.source).checks rows))
+    (logged_holds workload w (CheckStatement table 1 whole_table Md5) (Master table) before tt (checked_rows table (length w.source.schemas) _ (replayed_of w.source).checks refl rows))
 tool_holds workload (Master table) w v rows before is =
-    published_holds workload table (check_at table 1 (replayed_of w.source).checks) w v refl rows.1 before is
+    published_holds workload table (check_at table 1 (replayed_of w.source).checks) w v refl rows before is
 tool_holds workload Finished w v rows before is = absurd (cc)
 
 -- a replica after it applied the next entry
@@ -166,7 +159,7 @@ moved_holds workload w v place node (Some new) found applied before is =
       replica_starts = map_set_same (λ (n : NodeView). n.start) w.replicas place node new found now.start ∙ before.replica_starts;
       replicas = each_set (ReplicaHolds workload.schemas.tables w.source.history) w.replicas place new before.replicas now.holds;
       masters = before.masters;
-      phase = before.phase;
+      rows = before.rows;
     })
 
 worker_holds_at : (workload : Workload) (w v : WorldView) (place : ℕ) (node : Option NodeView)
@@ -187,7 +180,7 @@ seat_holds workload true replica w v before is = worker_holds workload replica w
 seat_holds workload false replica w v before is = absurd (cc)
 
 pub turn_holds : (workload : Workload) (actor : Actor) (w v : WorldView) → Holds workload w → turn actor w ≡ Some v → Holds workload v
-turn_holds workload Tool w v before is = tool_holds workload w.phase w v before.phase before is
+turn_holds workload Tool w v before is = tool_holds workload w.phase w v before.rows before is
 turn_holds workload (Worker replica worker) w v before is = seat_holds workload (worker == 1) replica w v before is
 
 after_holds_at : (workload : Workload) (actor : Actor) (w : WorldView) (next : Option WorldView) → turn actor w ≡ next → Holds workload w → Holds workload (unwrap_or next w)
@@ -204,19 +197,22 @@ rounds_hold workload zero w before = before
 rounds_hold workload (suc count) w before = rounds_hold workload count (round w) (after_turns_hold workload (order w) w before)
 
 -- where the tool can't move, it is through all tables
-pub record ToolEnded (phase : ToolPhase) (checks : List CheckEntry) : Type 0 where
+pub record ToolEnded (phase : ToolPhase) (tables : ℕ) (checks : List CheckEntry) : Type 0 where
   pub finished : phase ≡ Finished
-  pub mastered : AllMastered checks
+  pub rows : RowsHold Finished tables checks
 
 published_still : (table : ℕ) (row : Option CheckRow) (w : WorldView) → IsThere row → published table row w ≡ None → ⊥
 published_still table None w there is = (let no : None ≡ Some there.0 = there.1 in cc)
 published_still table (Some row) w there is = cc
 
-tool_ended : (phase : ToolPhase) (w : WorldView) → PhaseHolds phase (replayed_of w.source).checks → tool_turn_in phase w ≡ None → ToolEnded phase (replayed_of w.source).checks
+tool_ended : (phase : ToolPhase) (w : WorldView)
+    → RowsHold phase (length w.source.schemas) (replayed_of w.source).checks
+    → tool_turn_in phase w ≡ None
+    → ToolEnded phase (length w.source.schemas) (replayed_of w.source).checks
 tool_ended (Clear table) w rows is = absurd (cc)
 tool_ended (Check table) w rows is = absurd (cc)
-tool_ended (Master table) w rows is = absurd (published_still table (check_at table 1 (replayed_of w.source).checks) w rows.0 is)
-tool_ended Finished w rows is = record { finished = refl; mastered = rows }
+tool_ended (Master table) w rows is = absurd (published_still table (check_at table 1 (replayed_of w.source).checks) w rows.mastered.0 is)
+tool_ended Finished w rows is = record { finished = refl; rows = rows }
 
 -- where a replica's worker can't move, it applied the whole log
 next_still : (log : List Entry) (node : NodeView) (next : Option Entry)
@@ -288,6 +284,7 @@ replicas_ended w schemas number (node ∷ nodes) last holds still = (
 pub record LineIsKnown (w : WorldView) (line : VerdictLine) : Type 0 where
   pub known : line.verdict ≢ Pending
   pub holds : LineHolds w line
+  pub whole : IsOfWholeTable line
 
 counted : (master : Option Digest) (count : ℕ) → (m : Digest) × (master ≡ Some m) → IfSome master (λ m. m.count ≡ count) → option_map (λ (m : Digest). m.count) master ≡ Some count
 counted None count known is = absurd (let no : None ≡ Some known.0 = known.1 in cc)
@@ -295,18 +292,21 @@ counted (Some m) count known is = ap Some is
 
 -- a mastered row of a replica, as a line
 row_line_known : (w : WorldView) (number : ℕ) (node : NodeView) (entry : CheckEntry) (row : CheckRow)
+    → 1 ≤ number
     → slice_get w.replicas (number - 1) ≡ Some node
     → node.schemas ≡ w.source.schemas
     → IsMastered row
+    → IsWhole entry.chunk row
     → IsVerdict w.source.schemas w.source.start w.source.history node.start node.history entry.table entry.chunk row
     → LineIsKnown w (verdict_line number entry (Some row))
-row_line_known w number node entry row found same mastered is =
+row_line_known w number node entry row from_one found same mastered whole is =
     let source_rows : List (List Value) = chunk_rows w.source.schemas (source_at w.source.schemas w.source.start w.source.history row.position).tables entry.table row.span in
     let compares : Compares row source_rows (chunk_rows node.schemas (replica_at node.schemas node.start node.history row.position).tables entry.table row.span) =
     subst (λ (s : List Schema). Compares row source_rows (chunk_rows s (replica_at s node.start node.history row.position).tables entry.table row.span)) (sym same) is.compares in
     record {
       known = mastered_known row mastered;
       holds = record {
+        replica_from_one = from_one;
         node = node;
         found = found;
         kind = row.kind;
@@ -321,39 +321,49 @@ row_line_known w number node entry row found same mastered is =
           rows_same = compares.rows_same;
         };
       };
+      whole = record { only_chunk = whole.only_chunk; whole = whole.whole };
     }
+
+-- what holds of the source at the end of a run
+pub record SourceEnded (w : WorldView) : Type 0 where
+  pub masters : MastersAreTrue w.source.schemas w.source.start w.source.history
+  pub rows : RowsHold Finished (length w.source.schemas) (replayed_of w.source).checks
+
+ended_same : (w : WorldView) (node : NodeView) → Ended w.source.schemas w.source.history node → SameMasters (replayed_of w.source).checks (replayed_of node).checks
+ended_same w node ended =
+    let one : SameMasters (replayed_of w.source).checks (fold w.source.schemas node.start node.history).checks =
+    same_masters w.source.schemas w.source.start node.start w.source.history node.history ended.applied.follows ended.applied.all in
+    subst (λ (s : List Schema). SameMasters (replayed_of w.source).checks (fold s node.start node.history).checks) (sym ended.schemas_are) one
 
 -- a chunk of a replica at the end of a run
 chunk_line_known : (w : WorldView) (number : ℕ) (node : NodeView) (entry : CheckEntry)
+    → 1 ≤ number
     → slice_get w.replicas (number - 1) ≡ Some node
-    → MastersAreTrue w.source.schemas w.source.start w.source.history
-    → AllMastered (replayed_of w.source).checks
+    → SourceEnded w
     → Ended w.source.schemas w.source.history node
     → IsThere (check_at entry.table entry.chunk (replayed_of node).checks) ⊎ IsThere (check_at entry.table entry.chunk (replayed_of w.source).checks)
     → LineIsKnown w (verdict_line number entry (check_at entry.table entry.chunk (replayed_of node).checks))
-chunk_line_known w number node entry found masters mastered ended there =
-    let one : SameMasters (replayed_of w.source).checks (fold w.source.schemas node.start node.history).checks =
-    same_masters w.source.schemas w.source.start node.start w.source.history node.history ended.applied.follows ended.applied.all in
-    let same : SameMasters (replayed_of w.source).checks (replayed_of node).checks =
-    subst (λ (s : List Schema). SameMasters (replayed_of w.source).checks (fold s node.start node.history).checks) (sym ended.schemas_are) one in
-    let here = mastered_there
+chunk_line_known w number node entry from_one found source ended there =
+    let is = mastered_there
     (check_at entry.table entry.chunk (replayed_of w.source).checks)
     (check_at entry.table entry.chunk (replayed_of node).checks)
-    (same entry.table entry.chunk) (mastered entry.table entry.chunk) there in
-    let row : CheckRow = here.0 in
+    (ended_same w node ended entry.table entry.chunk) (source.rows.mastered entry.table entry.chunk) there in
+    let row : CheckRow = is.row in
     let stands : check_at entry.table entry.chunk (fold w.source.schemas node.start node.history).checks ≡ Some row =
-    subst (λ (s : List Schema). check_at entry.table entry.chunk (fold s node.start node.history).checks ≡ Some row) ended.schemas_are here.1 in
-    subst (λ (o : Option CheckRow). LineIsKnown w (verdict_line number entry o)) (sym here.1)
-    (row_line_known w number node entry row found ended.schemas_are here.2
-    (each_verdict w.source.schemas w.source.start node.start w.source.history node.history masters ended.applied.follows entry.table entry.chunk row stands (mastered_known row here.2)))
+    subst (λ (s : List Schema). check_at entry.table entry.chunk (fold s node.start node.history).checks ≡ Some row) ended.schemas_are is.here in
+    let on_source : IsWhole entry.chunk is.source_row = source.rows.whole entry.table entry.chunk is.source_row is.on_source in
+    subst (λ (o : Option CheckRow). LineIsKnown w (verdict_line number entry o)) (sym is.here)
+    (row_line_known w number node entry row from_one found ended.schemas_are is.mastered
+    (record { only_chunk = on_source.only_chunk; whole = sym is.same_span ∙ on_source.whole })
+    (each_verdict w.source.schemas w.source.start node.start w.source.history node.history source.masters ended.applied.follows entry.table entry.chunk row stands (mastered_known row is.mastered)))
 
 node_lines_known : (w : WorldView) (number : ℕ) (node : NodeView)
+    → 1 ≤ number
     → slice_get w.replicas (number - 1) ≡ Some node
-    → MastersAreTrue w.source.schemas w.source.start w.source.history
-    → AllMastered (replayed_of w.source).checks
+    → SourceEnded w
     → Ended w.source.schemas w.source.history node
     → AllByRecursion (LineIsKnown w) (replica_verdicts number (replayed_of w.source).checks (replayed_of node).checks)
-node_lines_known w number node found masters mastered ended =
+node_lines_known w number node from_one found ended_source ended =
     let own : List CheckEntry = (replayed_of node).checks in
     let source : List CheckEntry = (replayed_of w.source).checks in
     each_map (λ (entry : CheckEntry). verdict_line number entry (check_at entry.table entry.chunk own)) (LineIsKnown w) (all_chunks own source)
@@ -361,28 +371,43 @@ node_lines_known w number node found masters mastered ended =
     (λ (entry : CheckEntry). IsThere (check_at entry.table entry.chunk own) ⊎ IsThere (check_at entry.table entry.chunk source))
     (λ (entry : CheckEntry). LineIsKnown w (verdict_line number entry (check_at entry.table entry.chunk own)))
     (all_chunks own source)
-    (λ entry there. chunk_line_known w number node entry found masters mastered ended there)
+    (λ entry there. chunk_line_known w number node entry from_one found ended_source ended there)
     (each_placed own source))
 
 lines_known : (w : WorldView) (number : ℕ) (nodes : List NodeView)
     → LastFrom w number nodes
-    → MastersAreTrue w.source.schemas w.source.start w.source.history
-    → AllMastered (replayed_of w.source).checks
+    → SourceEnded w
     → AllByRecursion (Ended w.source.schemas w.source.history) nodes
     → AllByRecursion (LineIsKnown w) (verdicts_from number (replayed_of w.source).checks nodes)
-lines_known w number [] last masters mastered ended = tt
-lines_known w number (node ∷ nodes) last masters mastered ended =
+lines_known w number [] last source ended = tt
+lines_known w number (node ∷ nodes) last source ended =
+    let from_one : 1 ≤ number = omega (arith, last.counted) in
     each_append (LineIsKnown w) (replica_verdicts number (replayed_of w.source).checks (replayed_of node).checks) (verdicts_from (number + 1) (replayed_of w.source).checks nodes)
-    (node_lines_known w number node (last_first w number node nodes last) masters mastered ended.0)
-    (lines_known w (number + 1) nodes (last_more w number node nodes last) masters mastered ended.1)
+    (node_lines_known w number node from_one (last_first w number node nodes last) source ended.0)
+    (lines_known w (number + 1) nodes (last_more w number node nodes last) source ended.1)
+
+-- no table of any replica is passed over
+table_has_line : (w : WorldView) (replica table : ℕ)
+    → SourceEnded w
+    → AllByRecursion (Ended w.source.schemas w.source.history) w.replicas
+    → 1 ≤ replica
+    → replica ≤ length w.replicas
+    → table < length w.source.schemas
+    → HasLine (verdicts_of w) replica table
+table_has_line w replica table source ended from_one most within =
+    replica_has_line (replayed_of w.source).checks 1 (replica - 1) replica table w.replicas (omega arith) (omega arith)
+    (each_more (Ended w.source.schemas w.source.history) (λ (node : NodeView). IsThere (check_at table 1 (replayed_of node).checks)) w.replicas
+    (λ node one. told_there (check_at table 1 (replayed_of w.source).checks) (check_at table 1 (replayed_of node).checks) (ended_same w node one table 1) (source.rows.passed table within))
+    ended)
 
 ended_holds : (workload : Workload) (w : WorldView) → Holds workload w → IsStill w → RunHolds workload w
 ended_holds workload w holds still =
-    let tool = tool_ended w.phase w holds.phase still.0 in
+    let tool = tool_ended w.phase w holds.rows still.0 in
+    let source : SourceEnded w = record { masters = holds.masters; rows = tool.rows } in
     let replicas = replicas_ended w workload.schemas.tables 1 w.replicas (last_all w) holds.replicas still.1 in
     let nodes : AllByRecursion (Ended w.source.schemas w.source.history) w.replicas =
     subst (λ (s : List Schema). AllByRecursion (Ended s w.source.history) w.replicas) (sym holds.schemas) replicas in
-    let lines = lines_known w 1 w.replicas (last_all w) holds.masters tool.mastered nodes in
+    let lines = lines_known w 1 w.replicas (last_all w) source nodes in
     record {
       schemas = holds.schemas;
       source_start = holds.source_start;
@@ -393,6 +418,8 @@ ended_holds workload w holds still =
       finished = tool.finished;
       none_pending = each_more (LineIsKnown w) (λ (line : VerdictLine). line.verdict ≢ Pending) (verdicts_of w) (λ line is. is.known) lines;
       verdicts = each_more (LineIsKnown w) (LineHolds w) (verdicts_of w) (λ line is. is.holds) lines;
+      whole_tables = each_more (LineIsKnown w) IsOfWholeTable (verdicts_of w) (λ line is. is.whole) lines;
+      each_table = λ replica table from_one most within. table_has_line w replica table source nodes from_one most within;
     }
 
 pub each_run : (workload : Workload) (last : WorldView) → IsWorkload workload → EndsIn (begun workload) last → RunHolds workload last

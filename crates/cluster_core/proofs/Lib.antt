@@ -5,3 +5,4 @@ pub mod NodeLemmas
 pub mod OrderLemmas
 pub mod ReportLemmas
 pub mod RunLemmas
+pub mod TableLemmas

@@ -8,6 +8,7 @@ use Rattle.std.specs.declared.cmp.Ordering.{Ordering}
 use Rattle.std.specs.declared.cmp.Ordering.TheVariants.{Less, Equal, Greater}
 use Rattle.row_types.specs.declared.values.Value.{Value}
 use Rattle.row_types.specs.declared.digests.Digest.{Digest}
+use Rattle.row_types.specs.declared.edges.Span.{Span}
 use Rattle.row_types.specs.declared.table_schema.Schema.{Schema}
 use Rattle.ptc_statement.specs.declared.statements.Statement.{Statement}
 use Rattle.ptc_statement.specs.declared.statements.Statement.TheVariants.{Check as CheckStatement, SetMaster, ClearChecks}
@@ -44,7 +45,7 @@ PhaseHolds Finished checks = AllMastered checks
 pub none_mastered : AllMastered []
 none_mastered table chunk row stands = absurd (cc)
 
-cleared_row : (here : Bool) (old : Option CheckRow) (row : CheckRow) → cond here None old ≡ Some row → old ≡ Some row
+pub cleared_row : (here : Bool) (old : Option CheckRow) (row : CheckRow) → cond here None old ≡ Some row → old ≡ Some row
 cleared_row true old row stands = absurd (cc)
 cleared_row false old row stands = stands
 
@@ -79,55 +80,63 @@ mastered_mastered t master checks others table chunk row stands =
     (λ is old. others table chunk row (other_place table chunk t is) old)
     (sym (check_at-with_master table chunk t 1 master checks) ∙ stands)
 
--- whether a chunk has a row, and the published checksum in it
-abbrev pub master_in : Option CheckRow → Option (Option Digest)
-master_in found = option_map (λ (row : CheckRow). row.master) found
+-- what a check row says that is the same on each node: its span, and the published checksum
+pub record Told : Type 0 where
+  pub span : Span
+  pub master : Option Digest
 
--- two lists have rows of the same chunks, and the same published checksum in each
+abbrev pub told : CheckRow → Told
+told row = record { span = row.span; master = row.master }
+
+-- whether a chunk has a row, and what it says that is the same on each node
+abbrev pub told_in : Option CheckRow → Option Told
+told_in found = option_map told found
+
+-- two lists have rows of the same chunks, and the same span and published checksum in each
 abbrev pub SameMasters : List CheckEntry → List CheckEntry → Type 0
-SameMasters a b = (table chunk : ℕ) → master_in (check_at table chunk a) ≡ master_in (check_at table chunk b)
+SameMasters a b = (table chunk : ℕ) → told_in (check_at table chunk a) ≡ told_in (check_at table chunk b)
 
 same_checked : (here : Bool) (new_a new_b : CheckRow) (a b : Option CheckRow)
-    → new_a.master ≡ new_b.master
-    → master_in a ≡ master_in b
-    → master_in (cond here (Some new_a) a) ≡ master_in (cond here (Some new_b) b)
+    → told new_a ≡ told new_b
+    → told_in a ≡ told_in b
+    → told_in (cond here (Some new_a) a) ≡ told_in (cond here (Some new_b) b)
 same_checked true new_a new_b a b new before = ap Some new
 same_checked false new_a new_b a b new before = before
 
 same_published : (master : Digest) (a b : Option CheckRow)
-    → master_in a ≡ master_in b
-    → master_in (option_map (λ r. mastered r master) a) ≡ master_in (option_map (λ r. mastered r master) b)
+    → told_in a ≡ told_in b
+    → told_in (option_map (λ r. mastered r master) a) ≡ told_in (option_map (λ r. mastered r master) b)
 same_published master None None before = refl
 same_published master None (Some b) before = absurd (cc)
 same_published master (Some a) None before = absurd (cc)
-same_published master (Some a) (Some b) before = refl
+same_published master (Some a) (Some b) before = ap (option_map (λ (t : Told). record t { master = Some master })) before
 
 same_mastered : (here : Bool) (master : Digest) (a b : Option CheckRow)
-    → master_in a ≡ master_in b
-    → master_in (cond here (option_map (λ r. mastered r master) a) a) ≡ master_in (cond here (option_map (λ r. mastered r master) b) b)
+    → told_in a ≡ told_in b
+    → told_in (cond here (option_map (λ r. mastered r master) a) a) ≡ told_in (cond here (option_map (λ r. mastered r master) b) b)
 same_mastered true master a b before = same_published master a b before
 same_mastered false master a b before = before
 
 same_cleared : (here : Bool) (a b : Option CheckRow)
-    → master_in a ≡ master_in b
-    → master_in (cond here None a) ≡ master_in (cond here None b)
+    → told_in a ≡ told_in b
+    → told_in (cond here None a) ≡ told_in (cond here None b)
 same_cleared true a b before = refl
 same_cleared false a b before = before
 
 same_statement : (schemas : List Schema) (m n : ℕ) (statement : Statement) (a b : Replayed)
     → SameMasters a.checks b.checks → SameMasters (checks_after schemas m statement a) (checks_after schemas n statement b)
 same_statement schemas m n (CheckStatement t c span kind) a b before table chunk =
-    subst₂ (λ x y. master_in x ≡ master_in y)
+    subst₂ (λ x y. told_in x ≡ told_in y)
     (sym (check_at-with_check table chunk t c _ a.checks))
     (sym (check_at-with_check table chunk t c _ b.checks))
     (same_checked ((table == t) && (chunk == c)) _ _ (check_at table chunk a.checks) (check_at table chunk b.checks) refl (before table chunk))
 same_statement schemas m n (SetMaster t c kind master) a b before table chunk =
-    subst₂ (λ x y. master_in x ≡ master_in y)
+    subst₂ (λ x y. told_in x ≡ told_in y)
     (sym (check_at-with_master table chunk t c master a.checks))
     (sym (check_at-with_master table chunk t c master b.checks))
     (same_mastered ((table == t) && (chunk == c)) master (check_at table chunk a.checks) (check_at table chunk b.checks) (before table chunk))
 same_statement schemas m n (ClearChecks t) a b before table chunk =
-    subst₂ (λ x y. master_in x ≡ master_in y)
+    subst₂ (λ x y. told_in x ≡ told_in y)
     (sym (check_at-without_table table chunk t a.checks))
     (sym (check_at-without_table table chunk t b.checks))
     (same_cleared (table == t) (check_at table chunk a.checks) (check_at table chunk b.checks) (before table chunk))
@@ -176,19 +185,35 @@ same_masters schemas source_start replica_start log history follows all =
 abbrev pub IsThere : Option CheckRow → Type 0
 IsThere found = (row : CheckRow) × (found ≡ Some row)
 
+-- a replica's row of a chunk, mastered and of the same span as the source's
+pub record IsMasteredAsOn (source own : Option CheckRow) : Type 0 where
+  pub source_row : CheckRow
+  pub on_source : source ≡ Some source_row
+  pub row : CheckRow
+  pub here : own ≡ Some row
+  pub same_span : source_row.span ≡ row.span
+  pub mastered : IsMastered row
+
 pub mastered_there : (source own : Option CheckRow)
-    → master_in source ≡ master_in own
+    → told_in source ≡ told_in own
     → ((row : CheckRow) → source ≡ Some row → IsMastered row)
     → IsThere own ⊎ IsThere source
-    → (row : CheckRow) × (own ≡ Some row) × IsMastered row
+    → IsMasteredAsOn source own
 mastered_there None None same all (inl there) = absurd (let no : None ≡ Some there.0 = there.1 in cc)
 mastered_there None None same all (inr there) = absurd (let no : None ≡ Some there.0 = there.1 in cc)
 mastered_there None (Some row) same all there = absurd (cc)
 mastered_there (Some source) None same all there = absurd (cc)
 mastered_there (Some source) (Some row) same all there =
     let master = all source refl in
-    let equal : source.master ≡ row.master = cc in
-    (row, refl, (master.0, sym equal ∙ master.1))
+    let one : told source ≡ told row = cc in
+    record {
+      source_row = source;
+      on_source = refl;
+      row = row;
+      here = refl;
+      same_span = ap (λ (t : Told). t.span) one;
+      mastered = (master.0, sym (ap (λ (t : Told). t.master) one) ∙ master.1);
+    }
 
 -- the chunks of a report
 with_absent_at : (P : CheckEntry → Type 0) (order : Ordering) (new entry : CheckEntry) (entries more : List CheckEntry)
@@ -212,7 +237,7 @@ all_chunks_each P own (entry ∷ source) each more =
 is_for_itself : (entry : CheckEntry) → is_for entry.table entry.chunk entry ≡ true
 is_for_itself entry = grind (arith, nat_tests)
 
-there_either : (here : Bool) (row : CheckRow) (rest : Option CheckRow) → IsThere rest → IsThere (cond here (Some row) rest)
+pub there_either : (here : Bool) (row : CheckRow) (rest : Option CheckRow) → IsThere rest → IsThere (cond here (Some row) rest)
 there_either true row rest there = (row, refl)
 there_either false row rest there = there
 

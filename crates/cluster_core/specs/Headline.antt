@@ -1,6 +1,6 @@
 -- What the report of a finished run says: its log and histories, and what each printed verdict means.
-use Rattle.std.specs.Prelude.{◌≡◌, ◌≢◌, ◌≤◌, ◌-◌, ◌↔◌, List, Some, length, map}
-use Rattle.std.specs.List.{AllByRecursion, slice_get}
+use Rattle.std.specs.Prelude.{ℕ, ◌≡◌, ◌≢◌, ◌<◌, ◌≤◌, ◌-◌, ◌↔◌, List, Some, length, map}
+use Rattle.std.specs.List.{AllByRecursion, Contains, slice_get}
 use Rattle.row_types.specs.declared.values.Value.{Value}
 use Rattle.row_types.specs.declared.digests.DigestKind.{DigestKind}
 use Rattle.ptc_statement.specs.declared.statements.Statement.TheVariants.{Check}
@@ -10,7 +10,7 @@ use Rattle.history.specs.Digest.{digest_of}
 use Rattle.history.specs.Replay.{chunk_rows, source_at, replica_at, Follows}
 use Rattle.history.specs.Headline.{MastersAreTrue, HasStatementAt, DigestsDistinguish}
 use Rattle.cluster_core.specs.Node.{NodeView}
-use Rattle.cluster_core.specs.World.{WorldView}
+use Rattle.cluster_core.specs.World.{WorldView, whole_table}
 use Rattle.cluster_core.specs.Report.{verdicts_of}
 use Rattle.cluster_core.specs.declared.report_verdicts.VerdictLine.{VerdictLine}
 use Rattle.cluster_core.specs.declared.actors.ToolPhase.TheVariants.{Finished}
@@ -38,8 +38,10 @@ replica_rows_at node line =
     chunk_rows node.schemas (replica_at node.schemas node.start node.history line.position).tables line.table line.span
 
 -- a VERDICT line of a world: at a position of its log, where the CHECKSUM of the line's chunk stands,
--- it compares the rows of the chunk on the source and on the line's replica, both replayed to there
+-- it compares the rows of the chunk on the source and on the line's replica, both replayed to there.
+-- Replicas are numbered from 1.
 pub record LineHolds (w : WorldView) (line : VerdictLine) : Type 0 where
+  pub replica_from_one : 1 ≤ line.replica
   pub node : NodeView
   pub found : slice_get w.replicas (line.replica - 1) ≡ Some node
   pub kind : DigestKind
@@ -47,6 +49,18 @@ pub record LineHolds (w : WorldView) (line : VerdictLine) : Type 0 where
   pub in_log : line.position ≤ length w.source.history
   pub checked : HasStatementAt w.source.history line.position (Check line.table line.chunk line.span kind)
   pub compares : LineCompares line kind (source_rows_at w line) (replica_rows_at node line)
+
+-- the one chunk that a line is about is the whole table
+pub record IsOfWholeTable (line : VerdictLine) : Type 0 where
+  pub only_chunk : line.chunk ≡ 1
+  pub whole : line.span ≡ whole_table
+
+-- one of these lines is about this table on this replica
+pub record HasLine (lines : List VerdictLine) (replica table : ℕ) : Type 0 where
+  pub line : VerdictLine
+  pub among : Contains lines line
+  pub of_replica : line.replica ≡ replica
+  pub of_table : line.table ≡ table
 
 -- a replica's history: all entries of the log, in order and each once
 pub record AppliedAll (log : List Entry) (node : NodeView) : Type 0 where
@@ -69,3 +83,6 @@ pub record RunHolds (workload : Workload) (w : WorldView) : Type 0 where
   -- no verdict is pending, and each compares the source's and the replica's rows at one position
   pub none_pending : AllByRecursion (λ (line : VerdictLine). line.verdict ≢ Pending) (verdicts_of w)
   pub verdicts : AllByRecursion (LineHolds w) (verdicts_of w)
+  -- each verdict is about a whole table, and no table of any replica is passed over
+  pub whole_tables : AllByRecursion IsOfWholeTable (verdicts_of w)
+  pub each_table : (replica table : ℕ) → 1 ≤ replica → replica ≤ length w.replicas → table < length w.source.schemas → HasLine (verdicts_of w) replica table
