@@ -45,12 +45,10 @@ front_due all bytes code text is due = elim due [
     | inr run ↦ subst (λ (bs : List ℕ). FileDue bs code text) (front_is_all all bytes is run.within) (inr (inr run)) ] ]
 
 -- the same for a source that may not tell its bytes
-pub read_due : (words : List (List ℕ)) (old new : Option (List ℕ)) (bytes : List ℕ) (code : ℕ) (text : List ℕ)
-    → AreTaken words → TakesUpTo (16777216 + 1) old new bytes → FileDue bytes code text → Due words old code text
-read_due words None new bytes code text taken read due =
-    subst (λ (r : Result (Unit {0}) WordFault). DueAfter r words None code text) (sym taken) tt
-read_due words (Some all) new bytes code text taken read due =
-    subst (λ (r : Result (Unit {0}) WordFault). DueAfter r words (Some all) code text) (sym taken) (front_due all bytes code text read.taken due)
+pub read_due : (old new : Option (List ℕ)) (bytes : List ℕ) (code : ℕ) (text : List ℕ)
+    → TakesUpTo (16777216 + 1) old new bytes → FileDue bytes code text → IfSome old (λ bs. FileDue bs code text)
+read_due None new bytes code text read due = tt
+read_due (Some all) new bytes code text read due = front_due all bytes code text read.taken due
 
 reported_within : (bytes : List ℕ) (code : ℕ) (text : List ℕ) → FileDue bytes code text → IsReported code → length bytes ≤ 16777216
 reported_within bytes code text due reported = elim due [

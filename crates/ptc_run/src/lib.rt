@@ -8,4 +8,7 @@ pub mod row_lines;
 pub mod top;
 pub mod words;
 
+pub use first_form::{FileFault, LimitKind, read};
+pub use row_lines::{RowLine, RowNode};
 pub use top::ptc;
+pub use words::WordFault;

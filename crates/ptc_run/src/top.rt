@@ -1,5 +1,5 @@
 //! The top call: from the words and the bytes of the input to the bytes of the output.
-ghost use Rattle.std.specs.Prelude.{◌≡◌, ◌<◌, ◌≤◌, ◌⊎◌, List, ℕ, Some, Ok, Err, map, string_bytes, length, take, IfOk};
+ghost use Rattle.std.specs.Prelude.{◌≡◌, ◌<◌, ◌≤◌, ◌⊎◌, List, ℕ, Some, Ok, Err, map, string_bytes, length, take, IfOk, IfSome};
 ghost use Rattle.cluster_core.specs.declared.workload.Workload.{Workload as WholeWorkload};
 ghost use Rattle.cluster_core.specs.Workload.{IsWorkload};
 ghost use Rattle.ptc_io.specs.Faults.{HasRisen};
@@ -90,17 +90,36 @@ pub fn ptc<I: Source, O: Sink>(
 }
 
 /// What is due for the words and the input.
-fn whole_answer<I: Source>(alloc: Global, words: &[String], input: &mut I) -> Result<Answer, NoAnswer>
+fn whole_answer<I: Source>(
+    alloc: Global,
+    words: &[String],
+    input: &mut I,
+) -> Result<Answer, NoAnswer>
     ensures due { IfOk result (λ answer. Due (map string_bytes words.now) (I.left input.old) answer.code answer.text) }
     ensures code { IfOk result (λ answer. IsWritten answer.code) }
     ensures ended { IfOk result (λ answer. IsReported answer.code → AreTaken (map string_bytes words.now) × IsAtEnd (I.left input.new)) }
     ensures read { result ≡ Err NoAnswer.Read → AreTaken (map string_bytes words.now) × HasRisen (I.faults input.old) (I.faults input.new) }
     ensures unread { (AreTaken (map string_bytes words.now) → ⊥) → input.new ≡ input.old }
 {
-    if let Err(fault) = read_words(words) {
-        let text = refuse_words(alloc, words, fault)?;
-        return Ok(Answer { text, code: 1 });
+    match read_words(words) {
+        Err(fault) => {
+            let text = refuse_words(alloc, words, fault)?;
+            Ok(Answer { text, code: 1 })
+        }
+        Ok(()) => {
+            let answer = input_answer(alloc, input)?;
+            Ok(answer)
+        }
     }
+}
+
+/// What is due for the input, where the words are taken.
+fn input_answer<I: Source>(alloc: Global, input: &mut I) -> Result<Answer, NoAnswer>
+    ensures due { IfOk result (λ answer. IfSome (I.left input.old) (λ bytes. FileDue bytes answer.code answer.text)) }
+    ensures code { IfOk result (λ answer. IsWritten answer.code) }
+    ensures ended { IfOk result (λ answer. IsReported answer.code → IsAtEnd (I.left input.new)) }
+    ensures read { result ≡ Err NoAnswer.Read → HasRisen (I.faults input.old) (I.faults input.new) }
+{
     match read_to_limit(alloc, input, MOST_BYTES) {
         Err(ReadFault::Failed) => Err(NoAnswer::Read),
         Err(ReadFault::Memory) => Err(NoAnswer::Memory),
