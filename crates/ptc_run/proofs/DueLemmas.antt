@@ -21,15 +21,15 @@ use Rattle.ptc_run.proofs.FormLemmas.{early_excludes}
 pub run_is_due : (bytes : List ℕ) (workload : Workload) (code : ℕ) (text : List ℕ)
     → IsWorkloadText bytes workload → IsWorkload workload → length bytes ≤ 16777216 → Reports workload code text → FileDue bytes code text
 run_is_due bytes workload code text file is within reports = inr (inr (record {
-    within = within;
-    workload = workload;
-    file = file;
-    last = reports.last;
-    run = reports.run;
-    holds = each_run workload reports.last is reports.run;
-    status = reports.status;
-    report = reports.report;
-  }))
+  within = within;
+  workload = workload;
+  file = file;
+  last = reports.last;
+  run = reports.run;
+  holds = each_run workload reports.last is reports.run;
+  status = reports.status;
+  report = reports.report;
+}))
 
 -- what is due for the front that was read is due for the whole
 front_is_all : (all bytes : List ℕ) → bytes ≡ take (16777216 + 1) all → length bytes ≤ 16777216 → bytes ≡ all
@@ -39,10 +39,12 @@ front_is_all all bytes is within =
 
 front_due : (all bytes : List ℕ) (code : ℕ) (text : List ℕ) → bytes ≡ take (16777216 + 1) all → FileDue bytes code text → FileDue all code text
 front_due all bytes code text is due = elim due [
-    inl over ↦ inl (record { over = omega (arith, over.over, ap length is, length-take (16777216 + 1) all); refused = over.refused; line = over.line })
+  | inl over ↦ inl (record { over = omega (arith, over.over, ap length is, length-take (16777216 + 1) all); refused = over.refused; line = over.line })
   | inr file ↦ elim file [
-      inl early ↦ subst (λ (bs : List ℕ). FileDue bs code text) (front_is_all all bytes is early.within) (inr (inl early))
-    | inr run ↦ subst (λ (bs : List ℕ). FileDue bs code text) (front_is_all all bytes is run.within) (inr (inr run)) ] ]
+    | inl early ↦ subst (λ (bs : List ℕ). FileDue bs code text) (front_is_all all bytes is early.within) (inr (inl early))
+    | inr run ↦ subst (λ (bs : List ℕ). FileDue bs code text) (front_is_all all bytes is run.within) (inr (inr run))
+  ]
+]
 
 -- the same for a source that may not tell its bytes
 pub read_due : (old new : Option (List ℕ)) (bytes : List ℕ) (code : ℕ) (text : List ℕ)
@@ -52,8 +54,9 @@ read_due (Some all) new bytes code text read due = front_due all bytes code text
 
 reported_within : (bytes : List ℕ) (code : ℕ) (text : List ℕ) → FileDue bytes code text → IsReported code → length bytes ≤ 16777216
 reported_within bytes code text due reported = elim due [
-    inl over ↦ absurd (elim reported [ inl zero ↦ omega (arith, over.refused, zero) | inr sixteen ↦ omega (arith, over.refused, sixteen) ])
-  | inr file ↦ elim file [ inl early ↦ early.within | inr run ↦ run.within ] ]
+  | inl over ↦ absurd (elim reported [ inl zero ↦ omega (arith, over.refused, zero) | inr sixteen ↦ omega (arith, over.refused, sixteen) ])
+  | inr file ↦ elim file [ inl early ↦ early.within | inr run ↦ run.within ]
+]
 
 -- a report is due only for an input that was read to its end
 pub reported_end : (old new : Option (List ℕ)) (bytes : List ℕ) (code : ℕ) (text : List ℕ)
@@ -73,12 +76,15 @@ not_one last code is one =
 file_reported : (bytes : List ℕ) (workload : Workload) (code : ℕ) (text : List ℕ)
     → FileDue bytes code text → length bytes ≤ 16777216 → IsWorkloadText bytes workload → IsWritten code → IsReported code
 file_reported bytes workload code text due within file written = elim due [
-    inl over ↦ absurd (omega (arith, over.over))
+  | inl over ↦ absurd (omega (arith, over.over))
   | inr rest ↦ elim rest [
-      inl early ↦ absurd (early_excludes bytes early.number workload early.early file)
+    | inl early ↦ absurd (early_excludes bytes early.number workload early.early file)
     | inr run ↦ elim written [
-        inl zero ↦ inl zero
-      | inr other ↦ elim other [ inl sixteen ↦ inr sixteen | inr one ↦ absurd (not_one run.last code run.status one) ] ] ] ]
+      | inl zero ↦ inl zero
+      | inr other ↦ elim other [ inl sixteen ↦ inr sixteen | inr one ↦ absurd (not_one run.last code run.status one) ]
+    ]
+  ]
+]
 
 pub due_reported : (words : List (List ℕ)) (left : Option (List ℕ)) (bytes : List ℕ) (workload : Workload) (code : ℕ) (text : List ℕ)
     → AreTaken words → left ≡ Some bytes → Due words left code text

@@ -12,3 +12,6 @@ pub use first_form::{FileFault, LimitKind, read};
 pub use row_lines::{RowLine, RowNode};
 pub use top::ptc;
 pub use words::WordFault;
+
+#[cfg(test)]
+mod tests;

@@ -34,6 +34,7 @@ enum NoAnswer {
 
 impl From<Memory> for NoAnswer {
     ghost use Rattle.ptc_run.specs.declared.top.NoAnswer.TheVariants.{Memory as OutOfMemory};
+
     ghost from_gives = { λ _ e. e ≡ OutOfMemory };
 
     fn from(_error: Memory) -> NoAnswer {

@@ -13,4 +13,4 @@ pub returns-in_ok-answer-in-Ok-clause-ended : goal.returns-in_ok-answer-in-Ok-cl
 returns-in_ok-answer-in-Ok-clause-ended g c = λ reported.
     let due = subst (λ (bs : List ℕ). FileDue bs c.in_ok-answer-in-Ok.answer.code c.in_ok-answer-in-Ok.answer.text) c.as_slice.ensures.value c.in_ok-answer-in-Ok.ensures.due in
     reported_end (g.I.Source.left c.args.input.now) (g.I.Source.left c.read_to_limit.new.input) c.in-Ok.bytes.items
-      c.in_ok-answer-in-Ok.answer.code c.in_ok-answer-in-Ok.answer.text c.in-Ok.ensures.bytes due reported
+    c.in_ok-answer-in-Ok.answer.code c.in_ok-answer-in-Ok.answer.text c.in-Ok.ensures.bytes due reported

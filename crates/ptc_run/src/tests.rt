@@ -1,0 +1,166 @@
+use crate::ptc;
+use ptc_io::{MemorySink, MemorySource};
+use std::alloc::{AllocError, Global};
+use std::test::Fail;
+
+const HEAD: &str = "PTC WORKLOAD 1\nREPLICAS 1\nTABLE t (id BIGINT KEY, v BIGINT)\n";
+
+/// The report of the file without rows.
+const EMPTY: &str =
+    "PTC REPORT 1\nTABLE t (id BIGINT KEY, v BIGINT)\nLOG 1 c\n  CLEARCHECKS t\nLOG 2 c\n  CHECKSUM t CHUNK 1 FROM LOW TO HIGH USING MD5\nLOG 3 c\n  SETMASTER t CHUNK 1 CNT 0 CRC '00000000000000000000000000000000'\nHISTORY r1 applied 1\nHISTORY r1 applied 2\nHISTORY r1 applied 3\nVERDICT r1 t 1 FROM LOW TO HIGH AT 2 COUNT 0 0 SAME\nEQUAL r1 t\nSTATUS 0\n";
+
+fn words(alloc: Global, words: &[&str]) -> Result<Vec<String>, AllocError> {
+    let mut all = Vec::new(alloc);
+    for word in words {
+        all.push(String::from_str(alloc, word)?)?;
+    }
+    Ok(all)
+}
+
+/// The file of these ROW lines.
+fn file(alloc: Global, rows: &str) -> Result<Vec<u8>, AllocError> {
+    let mut bytes = HEAD.as_bytes().to_vec(alloc)?;
+    bytes.extend_from_slice(rows.as_bytes())?;
+    bytes.extend_from_slice(b"END\n")?;
+    Ok(bytes)
+}
+
+/// The status and the output for these words and this input.
+fn outcome(alloc: Global, list: &[&str], bytes: Vec<u8>) -> Result<(u8, Vec<u8>), AllocError> {
+    let words = words(alloc, list)?;
+    let mut input = MemorySource::new(bytes, Vec::new(alloc));
+    let mut output = MemorySink::new(alloc, 1000, Vec::new(alloc));
+    let status = ptc(alloc, words.as_slice(), &mut input, &mut output);
+    Ok((status.code, output.bytes().to_vec(alloc)?))
+}
+
+/// Whether the lines stand in the text one after the other, with nothing between.
+fn has(text: &[u8], lines: &str) -> bool {
+    text.windows(lines.len())
+        .any(|window| window == lines.as_bytes())
+}
+
+#[test]
+fn words_are_refused(rt: HostRuntime) -> Result<(), Fail> {
+    for (list, line) in [
+        ([].as_slice(), "ptc: no command\n"),
+        (["walk"].as_slice(), "ptc: word 1 refused: walk\n"),
+        (["walk", "run"].as_slice(), "ptc: word 1 refused: walk\n"),
+        (
+            ["run", "--sync"].as_slice(),
+            "ptc: word 2 refused: --sync\n",
+        ),
+    ] {
+        let (code, text) = outcome(rt.alloc(), list, file(rt.alloc(), "")?)?;
+        assert_eq!(rt; code, 1);
+        assert_eq!(rt; text.as_slice(), line.as_bytes());
+    }
+    Ok(())
+}
+
+#[test]
+fn files_are_refused(rt: HostRuntime) -> Result<(), Fail> {
+    let other =
+        b"PTC WORKLOAD 1\nREPLICAS 1\nTABLE u (id BIGINT KEY, v BIGINT)\nROW source t (1, 10)\nROW r1 t (1, 11)\nEND\n";
+    let (code, text) = outcome(rt.alloc(), &["run"], other.to_vec(rt.alloc())?)?;
+    assert_eq!(rt; code, 1);
+    assert_eq!(rt;
+        text.as_slice(),
+        b"ptc: workload refused: line 3: early\n".as_slice()
+    );
+    let twice = file(rt.alloc(), "ROW * t (1, 10)\nROW r1 t (1, 11)\n")?;
+    let (code, text) = outcome(rt.alloc(), &["run"], twice)?;
+    assert_eq!(rt; code, 1);
+    assert_eq!(rt;
+        text.as_slice(),
+        b"ptc: workload refused: line 5: early\n".as_slice()
+    );
+    Ok(())
+}
+
+/// One byte more than a file may have is refused, whatever the bytes are.
+#[test]
+fn too_many_bytes_are_refused(rt: HostRuntime) -> Result<(), Fail> {
+    let mut bytes = Vec::with_capacity(rt.alloc(), 16_777_217)?;
+    for _ in 0..16_777_217 {
+        bytes.push(b'x')?;
+    }
+    let (code, text) = outcome(rt.alloc(), &["run"], bytes)?;
+    assert_eq!(rt; code, 1);
+    assert_eq!(rt;
+        text.as_slice(),
+        b"ptc: workload refused: limit bytes: 16777217\n".as_slice()
+    );
+    Ok(())
+}
+
+#[test]
+fn empty_table_has_its_report(rt: HostRuntime) -> Result<(), Fail> {
+    let (code, text) = outcome(rt.alloc(), &["run"], file(rt.alloc(), "")?)?;
+    assert_eq!(rt; code, 0);
+    assert_eq!(rt; text.len(), 337);
+    assert_eq!(rt; text.as_slice(), EMPTY.as_bytes());
+    Ok(())
+}
+
+/// A source that fails at its first call: nothing is written.
+#[test]
+fn source_fails(rt: HostRuntime) -> Result<(), Fail> {
+    let words = words(rt.alloc(), &["run"])?;
+    let mut input = MemorySource::new(file(rt.alloc(), "")?, vec![in rt.alloc(); 1]?);
+    let mut output = MemorySink::new(rt.alloc(), 1000, Vec::new(rt.alloc()));
+    let status = ptc(rt.alloc(), words.as_slice(), &mut input, &mut output);
+    assert_eq!(rt; status.code, 2);
+    assert_eq!(rt; output.bytes().len(), 0);
+    Ok(())
+}
+
+/// A sink that takes 10 bytes a call and fails at its second has the first ten.
+#[test]
+fn sink_fails(rt: HostRuntime) -> Result<(), Fail> {
+    let words = words(rt.alloc(), &["run"])?;
+    let mut input = MemorySource::new(file(rt.alloc(), "")?, Vec::new(rt.alloc()));
+    let mut output = MemorySink::new(rt.alloc(), 10, vec![in rt.alloc(); 2]?);
+    let status = ptc(rt.alloc(), words.as_slice(), &mut input, &mut output);
+    assert_eq!(rt; status.code, 3);
+    assert_eq!(rt; output.bytes(), b"PTC REPORT".as_slice());
+    Ok(())
+}
+
+/// Equal, missing, changed and extra rows, negative numbers and both ends of 64 bits. The digests
+/// are those of Python's hashlib.
+#[test]
+fn rows_are_compared(rt: HostRuntime) -> Result<(), Fail> {
+    for (rows, code, lines) in [
+        (
+            "ROW * t (-9223372036854775808, 9223372036854775807)\n",
+            0,
+            "VERDICT r1 t 1 FROM LOW TO HIGH AT 2 COUNT 1 1 SAME\nFINAL source t (-9223372036854775808, 9223372036854775807)\nFINAL r1 t (-9223372036854775808, 9223372036854775807)\nEQUAL r1 t\nSTATUS 0\n",
+        ),
+        (
+            "ROW source t (7, -1)\n",
+            16,
+            "VERDICT r1 t 1 FROM LOW TO HIGH AT 2 COUNT 1 0 DIFFER\nFINAL source t (7, -1)\nUNEQUAL r1 t\nSTATUS 16\n",
+        ),
+        (
+            "ROW source t (1, 10)\nROW r1 t (1, 11)\n",
+            16,
+            "SETMASTER t CHUNK 1 CNT 1 CRC 'afd8cf80b4beb688e2c77ac8b94682e4'\n",
+        ),
+        (
+            "ROW r1 t (1, 11)\nROW source t (1, 10)\n",
+            16,
+            "VERDICT r1 t 1 FROM LOW TO HIGH AT 2 COUNT 1 1 DIFFER\nFINAL source t (1, 10)\nFINAL r1 t (1, 11)\nUNEQUAL r1 t\nSTATUS 16\n",
+        ),
+        (
+            "ROW r1 t (3, 0)\nROW * t (2, 0)\nROW r1 t (-1, 0)\n",
+            16,
+            "VERDICT r1 t 1 FROM LOW TO HIGH AT 2 COUNT 1 3 DIFFER\nFINAL source t (2, 0)\nFINAL r1 t (-1, 0)\nFINAL r1 t (2, 0)\nFINAL r1 t (3, 0)\nUNEQUAL r1 t\nSTATUS 16\n",
+        ),
+    ] {
+        let (got, text) = outcome(rt.alloc(), &["run"], file(rt.alloc(), rows)?)?;
+        assert_eq!(rt; got, code, "{rows}");
+        assert!(rt; has(text.as_slice(), lines), "{rows}");
+    }
+    Ok(())
+}
