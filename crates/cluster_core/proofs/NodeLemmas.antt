@@ -1,6 +1,6 @@
 -- Tables whose rows fit can be encoded, and a statement's check rows over tables that stay.
-use Rattle.std.proofs.Common.{◌≡◌, ℕ, zero, suc, ◌≤◌, ◌<◌, ◌^◌, ◌+◌, List, [], ◌∷◌, ◌++◌, length, take, refl, ap, sym, ◌∙◌, subst, arith, Option, Some, None}
-use Rattle.std.specs.Prelude.{slice_index_or, IsTrue}
+use Rattle.std.proofs.Common.{◌≡◌, ℕ, zero, suc, ◌<◌, ◌^◌, ◌+◌, List, [], ◌∷◌, ◌++◌, length, refl, ap, sym, ◌∙◌, subst, arith, Some}
+use Rattle.std.specs.Prelude.{slice_index_or}
 use Rattle.std.specs.List.{AllByRecursion, slice_get}
 use Rattle.row_types.specs.declared.values.Value.{Value}
 use Rattle.row_types.specs.declared.values.Value.TheVariants.{Null, Int, Text as OneText}
@@ -8,12 +8,12 @@ use Rattle.row_types.specs.declared.table_schema.ColumnKind.{ColumnKind}
 use Rattle.row_types.specs.declared.table_schema.ColumnKind.TheVariants.{Int as IntColumn, BigInt, Text as TextColumn}
 use Rattle.row_types.specs.declared.table_schema.Column.{Column}
 use Rattle.row_types.specs.declared.table_schema.Schema.{Schema}
-use Rattle.row_types.specs.Fit.{IsSchema, IsTable, AreTables, RowFits, ValuesFit, ValueFits, TextFits, KindFits, LengthFits}
+use Rattle.row_types.specs.Fit.{IsSchema, IsTable, AreTables, ValuesFit, ValueFits, TextFits, KindFits, LengthFits}
 use Rattle.ptc_statement.specs.declared.statements.Statement.{Statement}
 use Rattle.history.specs.declared.entries.Entry.{Entry}
 use Rattle.history.specs.declared.checks.CheckEntry.{CheckEntry}
 use Rattle.history.specs.Digest.{IsCheckable, ValueIsShort}
-use Rattle.history.specs.Replay.{Replayed, checks_after, after_statement, after_statements, after_entry, tables_after, fold, position_of}
+use Rattle.history.specs.Replay.{checks_after, after_statement, after_statements, after_entry, fold, position_of}
 use Rattle.history.proofs.ReplayLemmas.{tables_after-unchanged, fold_more}
 use Rattle.cluster_core.specs.Checkable.{AreCheckable}
 

@@ -1,5 +1,5 @@
 -- The verdicts on one replica more.
-use Rattle.std.proofs.Common.{◌≡◌, ℕ, ◌+◌, ◌||◌, List, ◌∷◌, ◌++◌, refl}
+use Rattle.std.proofs.Common.{◌≡◌, ℕ, ◌+◌, List, ◌∷◌, ◌++◌, refl}
 use Rattle.history.specs.declared.checks.CheckEntry.{CheckEntry}
 use Rattle.cluster_core.specs.Node.{NodeView, replayed_of}
 use Rattle.cluster_core.specs.Report.{replica_verdicts, verdicts_from}

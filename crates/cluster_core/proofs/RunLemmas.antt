@@ -1,6 +1,6 @@
 -- Turns one after the other: each that moves leaves fewer, so that rounds come to an end.
-use Rattle.std.proofs.Common.{◌≡◌, ℕ, zero, suc, ◌+◌, ◌-◌, ◌*◌, ◌<◌, ◌≤◌, ◌||◌, ◌==◌, List, [], ◌∷◌, ◌++◌, length, take, refl, ap, sym, ◌∙◌, subst, arith, length-append, add-one, Option, Some, None, Bool, true, false, Result, Ok, Err, cond, eqb, nat_lt}
-use Rattle.std.specs.Prelude.{slice_index_or, slice_set, unwrap_or, is_some, option_and_then}
+use Rattle.std.proofs.Common.{◌≡◌, ℕ, zero, suc, ◌+◌, ◌-◌, ◌<◌, ◌≤◌, ◌||◌, ◌==◌, List, [], ◌∷◌, ◌++◌, length, take, refl, ap, sym, ◌∙◌, subst, arith, length-append, add-one, Option, Some, None, Bool, true, false, Result, Ok, Err, cond, nat_lt}
+use Rattle.std.specs.Prelude.{slice_index_or, slice_set, unwrap_or, option_and_then}
 use Rattle.std.specs.List.{AllByRecursion, slice_get}
 use Rattle.std.specs.Result.{OnErr}
 use Rattle.std.proofs.Math.Nat.{mul-le-mul_left}
@@ -17,7 +17,7 @@ use Rattle.history.specs.Checks.{check_at}
 use Rattle.history.specs.Replay.{applied_of, applying}
 use Rattle.history.proofs.ReplayLemmas.{applied_of-more}
 use Rattle.cluster_core.specs.Node.{NodeView, logged, replayed_of}
-use Rattle.cluster_core.specs.World.{WorldView, turn, tool_turn, tool_turn_in, tool_logged, published, next_phase, next_applied, whole_table, worker_turn, after, after_turns, workers_from, order, round, rounds, IsStill, EndsIn, Reaches}
+use Rattle.cluster_core.specs.World.{WorldView, turn, tool_turn_in, tool_logged, published, next_phase, next_applied, whole_table, worker_turn, after, after_turns, workers_from, order, round, rounds, IsStill, EndsIn, Reaches}
 use Rattle.cluster_core.specs.Turns.{Takes, TookTurns, entries_left, lags, turns_left}
 use Rattle.cluster_core.specs.declared.actors.Actor.{Actor}
 use Rattle.cluster_core.specs.declared.actors.Actor.TheVariants.{Tool, Worker}

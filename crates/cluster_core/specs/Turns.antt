@@ -3,7 +3,7 @@ use Rattle.std.specs.Prelude.{ℕ, ◌≡◌, ◌+◌, ◌-◌, ◌*◌, ◌<◌
 use Rattle.std.specs.List.{AllByRecursion}
 use Rattle.history.specs.Replay.{applied_of}
 use Rattle.cluster_core.specs.Node.{NodeView}
-use Rattle.cluster_core.specs.World.{WorldView, turn, after_turns, order}
+use Rattle.cluster_core.specs.World.{WorldView, turn, after_turns}
 use Rattle.cluster_core.specs.declared.actors.Actor.{Actor}
 use Rattle.cluster_core.specs.declared.actors.Actor.TheVariants.{Tool, Worker}
 use Rattle.cluster_core.specs.declared.actors.ToolPhase.{ToolPhase}

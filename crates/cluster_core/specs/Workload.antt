@@ -1,5 +1,5 @@
 -- The rules that a workload keeps.
-use Rattle.std.specs.Prelude.{ℕ, ◌≡◌, ◌≤◌, length}
+use Rattle.std.specs.Prelude.{◌≡◌, ◌≤◌, length}
 use Rattle.std.specs.List.{AllByRecursion}
 use Rattle.row_types.specs.Fit.{IsSchema, AreTables}
 use Rattle.cluster_core.specs.declared.workload.Workload.{Workload}

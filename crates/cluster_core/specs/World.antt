@@ -1,5 +1,5 @@
 -- The world of a run, the turns of its actors, and its rounds.
-use Rattle.std.specs.Prelude.{ℕ, ◌≡◌, ◌+◌, ◌-◌, ◌==◌, suc, zero, nat_lt, cond, List, [], ◌∷◌, ◌++◌, Option, None, Some, length, map, slice_set, unwrap_or, option_and_then}
+use Rattle.std.specs.Prelude.{ℕ, ◌≡◌, ◌+◌, ◌-◌, ◌==◌, suc, zero, nat_lt, cond, List, [], ◌∷◌, Option, None, Some, length, map, slice_set, unwrap_or, option_and_then}
 use Rattle.std.specs.List.{slice_get, AllByRecursion}
 use Rattle.row_types.specs.declared.values.Value.{Value}
 use Rattle.row_types.specs.declared.edges.Edge.TheVariants.{Low, High}

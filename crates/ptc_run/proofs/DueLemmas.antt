@@ -1,8 +1,7 @@
 -- What is due, from what was read.
-use Rattle.std.proofs.Common.{◌≡◌, ℕ, ◌+◌, ◌<◌, ◌≤◌, ◌⊎◌, inl, inr, List, [], length, take, drop, refl, ap, sym, ◌∙◌, subst, arith, Option, Some, None, Result, Ok, Err}
+use Rattle.std.proofs.Common.{◌≡◌, ℕ, ◌+◌, ◌<◌, ◌≤◌, inl, inr, List, length, take, refl, ap, sym, ◌∙◌, subst, arith, Option, Some, None, Result, Ok}
 use Rattle.std.specs.Prelude.{IfSome, cond, true, false, nat_lt}
 use Rattle.std.specs.List.{list_any}
-use Rattle.std.specs.Option.{option_map}
 use Rattle.std.proofs.lemmas.List.{length-take, take_all, drop_all}
 use Rattle.std.proofs.lemmas.Bool.{ltb-true, ltb-false}
 use Rattle.ptc_io.specs.Bytes.{TakesUpTo, IsAtEnd}
@@ -12,9 +11,8 @@ use Rattle.cluster_core.specs.World.{WorldView}
 use Rattle.cluster_core.specs.Report.{differs, verdicts_of, status_of}
 use Rattle.cluster_core.proofs.HeadlineLemmas.{each_run}
 use Rattle.ptc_run.specs.declared.words.WordFault.{WordFault}
-use Rattle.ptc_run.specs.FirstForm.{IsWorkloadText, IsEarly}
-use Rattle.ptc_run.specs.Words.{words_read}
-use Rattle.ptc_run.specs.Due.{PassesLimit, HasEarlyLine, HasRun, FileDue, DueAfter, Due, Reports, AreTaken, IsWritten, IsReported}
+use Rattle.ptc_run.specs.FirstForm.{IsWorkloadText}
+use Rattle.ptc_run.specs.Due.{FileDue, DueAfter, Due, Reports, AreTaken, IsWritten, IsReported}
 use Rattle.ptc_run.proofs.FormLemmas.{early_excludes}
 
 -- the report of a file's workload is due

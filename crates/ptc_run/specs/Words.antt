@@ -1,5 +1,5 @@
 -- Which words the program takes, and the line that refuses others.
-use Rattle.std.specs.Prelude.{◌≡◌, ◌<◌, ◌≤◌, ℕ, List, [], ◌∷◌, ◌++◌, Result, Ok, Err, cond, codes, length}
+use Rattle.std.specs.Prelude.{◌≤◌, ℕ, List, [], ◌∷◌, ◌++◌, Result, Ok, Err, cond, codes, length}
 use Rattle.std.specs.Prelude.{slice_index_or, ◌-◌}
 use Rattle.std.specs.Str.{bytes_eq}
 use Rattle.std.specs.Fmt.{decimal}

@@ -36,8 +36,11 @@ fn outcome(alloc: Global, list: &[&str], bytes: Vec<u8>) -> Result<(u8, Vec<u8>)
 
 /// Whether the lines stand in the text one after the other, with nothing between.
 fn has(text: &[u8], lines: &str) -> bool {
-    text.windows(lines.len())
-        .any(|window| window == lines.as_bytes())
+    let lines = lines.as_bytes();
+    if lines.is_empty() {
+        return true;
+    }
+    text.windows(lines.len()).any(|window| window == lines)
 }
 
 #[test]

@@ -1,5 +1,5 @@
-use Rattle.std.proofs.Common.{◌≡◌, ap, ◌∙◌, sym}
-use Rattle.history.specs.Replay.{Replayed, fold, applied_of, position_of}
+use Rattle.std.proofs.Common.{ap, ◌∙◌, sym}
+use Rattle.history.specs.Replay.{Replayed, applied_of, position_of}
 use Rattle.history.proofs.ReplayLemmas.{applied_of-more}
 use Rattle.cluster_core.proofs.NodeLemmas.{log_keeps}
 use Rattle.cluster_core.proofs.nodes.Node.log.Goals as goal

@@ -1,4 +1,4 @@
-use Rattle.cluster_core.proofs.RunLemmas.{runs_more, runs_end, reaches_more, on_err_of}
+use Rattle.cluster_core.proofs.RunLemmas.{runs_more, reaches_more, on_err_of}
 use Rattle.cluster_core.proofs.worlds.World.run.Goals as goal
 
 pub rounds-preserved : goal.rounds-preserved

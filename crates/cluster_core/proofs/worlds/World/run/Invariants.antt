@@ -1,4 +1,3 @@
-use Rattle.std.proofs.Common.{◌≡◌}
 use Rattle.cluster_core.specs.Turns.{turns_left}
 use Rattle.cluster_core.proofs.RunLemmas.{RunsSoFar}
 use Rattle.cluster_core.proofs.worlds.World.run.Given as goal

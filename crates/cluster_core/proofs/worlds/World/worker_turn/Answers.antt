@@ -1,6 +1,6 @@
 use Rattle.std.proofs.Common.{◌-◌, ◌<◌, length, arith, subst}
 use Rattle.std.specs.Prelude.{slice_set}
-use Rattle.cluster_core.specs.World.{WorldView, worker_turn, next_applied}
+use Rattle.cluster_core.specs.World.{WorldView, worker_turn}
 use Rattle.cluster_core.specs.Turns.{Takes}
 use Rattle.cluster_core.proofs.RunLemmas.{worker_takes}
 use Rattle.cluster_core.proofs.worlds.World.worker_turn.Goals as goal
