@@ -291,3 +291,26 @@ runs_end first now next moved so_far took none =
 pub on_err_of : {T E P : Type 0} (r : Result T E) → P → OnErr r P
 on_err_of (Ok x) holds = tt
 on_err_of (Err e) holds = holds
+
+none_moves : (actors : List Actor) (w : WorldView) → AllByRecursion (λ actor. turn actor w ≡ None) actors → after_turns actors w ≡ w
+none_moves [] w none = refl
+none_moves (actor ∷ actors) w none =
+    let stays : after actor w ≡ w = ap (λ (o : Option WorldView). unwrap_or o w) none.0 in
+    ap (after_turns actors) stays ∙ none_moves actors w none.1
+
+-- where nobody can move, rounds change nothing
+still_stays : (n : ℕ) (w : WorldView) → IsStill w → rounds n w ≡ w
+still_stays zero w still = refl
+still_stays (suc n) w still = ap (rounds n) (none_moves (order w) w still) ∙ still_stays n w still
+
+same_end : (m n : ℕ) (first : WorldView) → IsStill (rounds m first) → IsStill (rounds n first) → rounds m first ≡ rounds n first
+same_end zero n first one other = sym (still_stays n first one)
+same_end (suc m) zero first one other = still_stays (suc m) first other
+same_end (suc m) (suc n) first one other = same_end m n (round first) one other
+
+-- a run has one end
+pub one_end : (first last other : WorldView) → EndsIn first last → EndsIn first other → last ≡ other
+one_end first last other one two =
+    one.reached
+    ∙ same_end one.count two.count first (subst IsStill one.reached one.still) (subst IsStill two.reached two.still)
+    ∙ sym two.reached

@@ -1,11 +1,17 @@
+ghost use Rattle.std.specs.Prelude.{◌≡◌};
 ghost use Rattle.cluster_core.specs.Headline.{RunHolds};
 ghost use Rattle.cluster_core.specs.Workload.{IsWorkload};
 ghost use Rattle.cluster_core.specs.World.{WorldView, begun, EndsIn};
 ghost use Rattle.cluster_core.specs.declared.workload.Workload.{Workload};
 
-/// Whatever workload a run begins from, at its end each replica applied the whole log, each published
-/// checksum is the source's own, and each verdict compares the source's and the replica's rows of
-/// its chunk at one position of the log.
+/// Whatever workload a run begins from, at its end each replica applied the whole log, each
+/// published checksum is the source's own, and each verdict compares the source's and the replica's
+/// rows of its chunk at one position of the log; no table of any replica is passed over.
 pub fn each_run_holds()
     ensures { (workload : Workload) (last : WorldView) → IsWorkload workload → EndsIn (begun workload) last → RunHolds workload last }
+{}
+
+/// A run has one end, so its report and its status are determined.
+pub fn each_run_has_one_end()
+    ensures { (first last other : WorldView) → EndsIn first last → EndsIn first other → last ≡ other }
 {}

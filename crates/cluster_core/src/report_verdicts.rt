@@ -1,5 +1,5 @@
 //! The report's verdicts on chunks.
-ghost use Rattle.std.specs.Prelude.{◌≡◌, ◌++◌, OnOk, IfOk};
+ghost use Rattle.std.specs.Prelude.{◌≡◌, ◌++◌, ◌↔◌, IsTrue, OnOk, IfOk};
 ghost use Rattle.std.specs.List.{flat_map, list_any};
 ghost use Rattle.std.specs.Option.{option_copied};
 ghost use Rattle.cluster_core.specs.Report.{verdict_line, all_chunks, replica_verdicts, differs, verdict_text, count_text, verdict_place_text, verdict_span_text, verdict_counts_text, verdict_line_text};
@@ -24,6 +24,35 @@ pub struct VerdictLine {
 }
 
 impl VerdictLine {
+    pub fn copy(&self, alloc: Global) -> R<VerdictLine>
+        ensures { IfOk result (λ copy. copy ≡ self.now) }
+    {
+        Ok(VerdictLine {
+            replica: self.replica,
+            table: self.table,
+            chunk: self.chunk,
+            span: self.span.copy(alloc)?,
+            position: self.position,
+            master_count: self.master_count,
+            own_count: self.own_count,
+            verdict: self.verdict,
+        })
+    }
+
+    pub fn same(&self, other: &VerdictLine) -> bool
+        ensures { IsTrue result ↔ (self.now ≡ other.now) }
+    {
+        let same_place = self.replica == other.replica
+            && self.table == other.table
+            && self.chunk == other.chunk
+            && self.span.same(&other.span)
+            && self.position == other.position;
+        same_place
+            && self.master_count == other.master_count
+            && self.own_count == other.own_count
+            && self.verdict.same(&other.verdict)
+    }
+
     /// By the replica's row of the entry's chunk; where it has none, by the entry, with no counts.
     fn of(alloc: Global, replica: u32, entry: &CheckEntry, own: Option<&CheckRow>) -> R<VerdictLine>
         ensures { IfOk result (λ line. line ≡ verdict_line replica entry.now (option_copied own.entry)) }

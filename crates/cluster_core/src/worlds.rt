@@ -38,6 +38,23 @@ pub struct RunReport {
     pub status: u8,
 }
 
+impl RunReport {
+    pub fn copy(&self, alloc: Global) -> R<RunReport>
+        ensures { IfOk result (λ copy. copy ≡ self.now) }
+    {
+        Ok(RunReport {
+            text: self.text.copy(alloc)?,
+            status: self.status,
+        })
+    }
+
+    pub fn same(&self, other: &RunReport) -> bool
+        ensures { IsTrue result ↔ (self.now ≡ other.now) }
+    {
+        self.text.same(&other.text) && self.status == other.status
+    }
+}
+
 impl Model for World {
     ghost use Rattle.cluster_core.specs.World.{WorldView};
 

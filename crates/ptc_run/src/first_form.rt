@@ -1,6 +1,6 @@
 //! The reader of the first form of the workload file.
 
-ghost use Rattle.std.specs.Prelude.{◌≡◌, ◌+◌, ◌<◌, ◌≤◌, ◌⊎◌, List, ℕ, [], ◌∷◌, ◌++◌, true, false, length, MatchResult, IfOk, IfErr, Ok, Err};
+ghost use Rattle.std.specs.Prelude.{◌≡◌, ◌+◌, ◌<◌, ◌≤◌, ◌⊎◌, ◌↔◌, IsTrue, List, ℕ, [], ◌∷◌, ◌++◌, true, false, length, MatchResult, IfOk, IfErr, Ok, Err};
 ghost use Rattle.row_types.specs.declared.table_schema.Column.{Column as OneColumn};
 ghost use Rattle.row_types.specs.declared.table_schema.ColumnKind.TheVariants.{BigInt};
 ghost use Rattle.row_types.specs.declared.table_schema.Schemas.{Schemas as AllSchemas};
@@ -32,6 +32,34 @@ pub enum FileFault {
     Early { number: u32 },
     Limit { which: LimitKind, got: u64 },
     Memory,
+}
+
+impl LimitKind {
+    pub fn copy(&self, _alloc: Global) -> R<LimitKind>
+        ensures { IfOk result (λ copy. copy ≡ self.now) }
+    {
+        Ok(*self)
+    }
+
+    pub fn same(&self, other: &LimitKind) -> bool
+        ensures { IsTrue result ↔ (self.now ≡ other.now) }
+    {
+        *self == *other
+    }
+}
+
+impl FileFault {
+    pub fn copy(&self, _alloc: Global) -> R<FileFault>
+        ensures { IfOk result (λ copy. copy ≡ self.now) }
+    {
+        Ok(*self)
+    }
+
+    pub fn same(&self, other: &FileFault) -> bool
+        ensures { IsTrue result ↔ (self.now ≡ other.now) }
+    {
+        *self == *other
+    }
 }
 
 impl From<Memory> for FileFault {

@@ -4,12 +4,11 @@
 pub mod first_form;
 mod kept_rows;
 mod line_cuts;
-pub mod row_lines;
+mod row_lines;
 pub mod top;
 pub mod words;
 
 pub use first_form::{FileFault, LimitKind, read};
-pub use row_lines::{RowLine, RowNode};
 pub use top::ptc;
 pub use words::WordFault;
 

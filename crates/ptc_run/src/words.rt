@@ -1,5 +1,5 @@
 //! The words of the command line, and the lines of refusal.
-ghost use Rattle.std.specs.Prelude.{◌≡◌, ◌++◌, IfOk, IfErr, OnOk, map, string_bytes};
+ghost use Rattle.std.specs.Prelude.{◌≡◌, ◌++◌, ◌↔◌, IsTrue, IfOk, IfErr, OnOk, map, string_bytes};
 ghost use Rattle.ptc_run.specs.Words.{words_read, IsOfWords, word_refusal, early_refusal, limit_refusal, workload_refused};
 
 use cluster_core::texts::{push_bytes, push_number};
@@ -13,6 +13,20 @@ pub enum WordFault {
     Nothing,
     /// The first word that is not allowed at its place.
     Bad { index: u32 },
+}
+
+impl WordFault {
+    pub fn copy(&self, _alloc: Global) -> R<WordFault>
+        ensures { IfOk result (λ copy. copy ≡ self.now) }
+    {
+        Ok(*self)
+    }
+
+    pub fn same(&self, other: &WordFault) -> bool
+        ensures { IsTrue result ↔ (self.now ≡ other.now) }
+    {
+        *self == *other
+    }
 }
 
 /// Takes the one word `run`, and refuses all others.
