@@ -161,15 +161,6 @@ impl Checks {
         self.items.is_empty()
     }
 
-    /// Puts an item at the end; a refusal leaves the list as it was.
-    pub fn push(&mut self, item: CheckEntry) -> R<()>
-        ensures ok { OnOk result (self.new ≡ self.old ++ item ∷ []) }
-        ensures err { OnErr result (self.new ≡ self.old) }
-    {
-        self.items.push(item)?;
-        Ok(())
-    }
-
     pub fn copy(&self, alloc: Global) -> R<Checks>
         ensures { IfOk result (λ copy. copy ≡ self.now) }
     {
@@ -194,9 +185,7 @@ impl Checks {
         }
         true
     }
-}
 
-impl Checks {
     /// Pending without a row or without the source's checksum; Differ where its count or XOR is not
     /// the row's own; else Same (pt-table-checksum's manual, its query for differing chunks).
     pub fn verdict(row: Option<&CheckRow>) -> Verdict
@@ -207,9 +196,7 @@ impl Checks {
             Some(row) => row.verdict(),
         }
     }
-}
 
-impl Checks {
     /// The chunk's row, if there is one.
     pub fn get(&self, table: u32, chunk: u32) -> Option<&CheckRow>
         ensures { option_copied result ≡ check_at table chunk self.now }
