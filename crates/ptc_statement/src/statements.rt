@@ -64,49 +64,67 @@ impl Statement {
     pub fn same(&self, other: &Statement) -> bool
         ensures { IsTrue result ↔ (self.now ≡ other.now) }
     {
-        match (self, other) {
-            (
-                Statement::Check {
-                    table,
-                    chunk,
-                    span,
-                    kind,
-                },
-                Statement::Check {
-                    table: other_table,
-                    chunk: other_chunk,
-                    span: other_span,
-                    kind: other_kind,
-                },
-            ) => {
-                table == other_table
-                    && chunk == other_chunk
-                    && span.same(other_span)
-                    && kind.same(other_kind)
+        match self {
+            Statement::Check {
+                table,
+                chunk,
+                span,
+                kind,
+            } => other.is_check(*table, *chunk, span, *kind),
+            Statement::SetMaster {
+                table,
+                chunk,
+                kind,
+                master,
+            } => other.is_set_master(*table, *chunk, *kind, master),
+            Statement::ClearChecks { table } => other.is_clear_checks(*table),
+        }
+    }
+
+    fn is_check(&self, table: u32, chunk: u32, span: &Span, kind: DigestKind) -> bool
+        ensures { IsTrue result ↔ (self.now ≡ Statement.Check table chunk span.now kind) }
+    {
+        match self {
+            Statement::Check {
+                table: own_table,
+                chunk: own_chunk,
+                span: own_span,
+                kind: own_kind,
+            } => {
+                *own_table == table
+                    && *own_chunk == chunk
+                    && own_span.same(span)
+                    && own_kind.same(&kind)
             }
-            (
-                Statement::SetMaster {
-                    table,
-                    chunk,
-                    kind,
-                    master,
-                },
-                Statement::SetMaster {
-                    table: other_table,
-                    chunk: other_chunk,
-                    kind: other_kind,
-                    master: other_master,
-                },
-            ) => {
-                table == other_table
-                    && chunk == other_chunk
-                    && kind.same(other_kind)
-                    && master.same(other_master)
+            Statement::SetMaster { .. } | Statement::ClearChecks { .. } => false,
+        }
+    }
+
+    fn is_set_master(&self, table: u32, chunk: u32, kind: DigestKind, master: &Digest) -> bool
+        ensures { IsTrue result ↔ (self.now ≡ Statement.SetMaster table chunk kind master.now) }
+    {
+        match self {
+            Statement::SetMaster {
+                table: own_table,
+                chunk: own_chunk,
+                kind: own_kind,
+                master: own_master,
+            } => {
+                *own_table == table
+                    && *own_chunk == chunk
+                    && own_kind.same(&kind)
+                    && own_master.same(master)
             }
-            (Statement::ClearChecks { table }, Statement::ClearChecks { table: other_table }) => {
-                table == other_table
-            }
-            _ => false,
+            Statement::Check { .. } | Statement::ClearChecks { .. } => false,
+        }
+    }
+
+    fn is_clear_checks(&self, table: u32) -> bool
+        ensures { IsTrue result ↔ (self.now ≡ Statement.ClearChecks table) }
+    {
+        match self {
+            Statement::ClearChecks { table: own_table } => *own_table == table,
+            Statement::Check { .. } | Statement::SetMaster { .. } => false,
         }
     }
 }
