@@ -112,11 +112,11 @@ fn log(alloc: Global) -> R<Vec<u8>> {
 // Four chunks: equal to the source's, other than it, without its checksum, and without a row.
 fn verdicts(alloc: Global) -> R<(Vec<u8>, bool)> {
     let mut own = Checks::new(alloc);
-    own.push(check_entry(alloc, 1, 5, Some(digest(5, 16)))?)?;
-    own.push(check_entry(alloc, 2, 4, Some(digest(5, 16)))?)?;
-    own.push(check_entry(alloc, 3, 4, None)?)?;
+    own.add_absent(check_entry(alloc, 1, 5, Some(digest(5, 16)))?)?;
+    own.add_absent(check_entry(alloc, 2, 4, Some(digest(5, 16)))?)?;
+    own.add_absent(check_entry(alloc, 3, 4, None)?)?;
     let mut source = Checks::new(alloc);
-    source.push(check_entry(alloc, 4, 9, Some(digest(9, 16)))?)?;
+    source.add_absent(check_entry(alloc, 4, 9, Some(digest(9, 16)))?)?;
     let mut out = Vec::new(alloc);
     let differs = push_verdicts(alloc, &mut out, &schemas(alloc)?, 3, &source, &own)?;
     Ok((out, differs))
