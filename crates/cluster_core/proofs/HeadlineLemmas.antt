@@ -1,13 +1,20 @@
 -- What holds after each turn of a run, and so of the report at its end.
-use Rattle.std.proofs.Common.{◌≡◌, ◌≢◌, ◌⊎◌, ℕ, zero, suc, ◌+◌, ◌-◌, ◌<◌, ◌≤◌, ◌==◌, Bool, true, false, cond, List, [], ◌∷◌, ◌++◌, length, map, Option, None, Some, option_map, IfSome, refl, ap, ◌∙◌, sym, subst, arith, append_assoc, length-append}
+use Rattle.std.proofs.Common.{◌≡◌, ◌≢◌, ◌⊎◌, ℕ, zero, suc, ◌+◌, ◌-◌, ◌<◌, ◌≤◌, ◌==◌, Bool, true, false, cond, List, [], ◌∷◌, ◌++◌, length, map, Option, None, Some, option_map, IfSome, refl, ap, ◌∙◌, sym, subst, arith}
 use Rattle.std.specs.Prelude.{slice_set, unwrap_or, option_and_then}
 use Rattle.std.specs.List.{AllByRecursion, slice_get}
+use Rattle.std.proofs.Math.ListN.{length-set}
+use Rattle.std.proofs.lemmas.Option.{slice_get_within}
 use Rattle.row_types.specs.declared.values.Value.{Value}
 use Rattle.row_types.specs.declared.digests.Digest.{Digest}
 use Rattle.row_types.specs.declared.digests.DigestKind.TheVariants.{Md5}
 use Rattle.row_types.specs.declared.table_schema.Schema.{Schema}
 use Rattle.ptc_statement.specs.declared.statements.Statement.{Statement}
-use Rattle.ptc_statement.specs.declared.statements.Statement.TheVariants.{Check as CheckStatement, SetMaster, ClearChecks}
+use Rattle.ptc_statement.specs.declared.statements.Statement.TheVariants.{Insert, Delete, Update, Check as CheckStatement, SetMaster, ClearChecks}
+use Rattle.ptc_statement.specs.declared.scripts.Script.{Script}
+use Rattle.ptc_statement.specs.declared.scripts.ScriptLine.{ScriptLine}
+use Rattle.ptc_statement.specs.declared.scripts.ScriptStep.{ScriptStep}
+use Rattle.ptc_statement.specs.declared.scripts.ScriptStep.TheVariants.{Run}
+use Rattle.ptc_statement.specs.Fits.{IsClients}
 use Rattle.history.specs.declared.entries.Entry.{Entry}
 use Rattle.history.specs.declared.checks.CheckRow.{CheckRow}
 use Rattle.history.specs.declared.checks.CheckEntry.{CheckEntry}
@@ -18,24 +25,32 @@ use Rattle.history.specs.Headline.{IsTrueMaster, MastersAreTrue, Compares, IsVer
 use Rattle.history.proofs.ReplayLemmas.{fold_more, masters_more, follows_more, follows_longer_log, follows_length, applied_of-follows}
 use Rattle.history.proofs.VerdictLemmas.{each_verdict}
 use Rattle.cluster_core.specs.Node.{NodeView, replayed_of, logged}
-use Rattle.cluster_core.specs.World.{WorldView, fresh, begun, by_tool, whole_table, tool_logged, published, next_phase, tool_turn_in, next_applied, worker_turn, turn, after, after_turns, workers_from, order, round, rounds, IsStill, EndsIn}
+use Rattle.cluster_core.specs.World.{SessionView, WorldView, fresh, unstarted, begun, is_duplicate, by_session, line_logged, line_refused, step_done, session_turn, by_tool, whole_table, tool_logged, published, next_phase, tool_turn_in, next_applied, worker_turn, turn, after, after_turns, sessions_from, workers_from, order, round, rounds, IsStill, EndsIn}
 use Rattle.cluster_core.specs.declared.report_verdicts.VerdictLine.{VerdictLine}
 use Rattle.cluster_core.specs.Report.{verdict_line, all_chunks, replica_verdicts, verdicts_from, verdicts_of}
-use Rattle.cluster_core.specs.Headline.{LineHolds, IsOfWholeTable, HasLine, AppliedAll, RunHolds}
-use Rattle.cluster_core.specs.Workload.{IsWorkload}
+use Rattle.cluster_core.specs.Turns.{IsNumbered}
+use Rattle.cluster_core.specs.Headline.{LineHolds, IsOfWholeTable, HasLine, AppliedAll, logged_by, IsTools, IsOwnedBy, RefusedTruly, LoggedTruly, RunHolds}
+use Rattle.cluster_core.specs.Workload.{StepFits, IsWorkload}
 use Rattle.cluster_core.specs.declared.workload.Workload.{Workload}
 use Rattle.cluster_core.specs.declared.actors.Actor.{Actor}
-use Rattle.cluster_core.specs.declared.actors.Actor.TheVariants.{Tool, Worker}
+use Rattle.cluster_core.specs.declared.actors.Actor.TheVariants.{Session, Tool, Worker}
 use Rattle.cluster_core.specs.declared.actors.ToolPhase.{ToolPhase}
 use Rattle.cluster_core.specs.declared.actors.ToolPhase.TheVariants.{Clear, Check, Master, Finished}
-use Rattle.cluster_core.proofs.EachLemmas.{each_more, each_append, each_at, each_set, each_map, each_always, map_set_same, map_back, slice_get_none, slice_get_after}
+use Rattle.cluster_core.proofs.EachLemmas.{each_more, each_append, each_first, each_rest, each_at, each_set, each_map, each_always, map_set_same, map_back, map_after, slice_get_none, LastFrom, last_all, last_first, last_more}
 use Rattle.cluster_core.proofs.MasterLemmas.{IsMastered, SameMasters, IsThere, same_masters, mastered_there, each_placed, mastered_known}
+use Rattle.cluster_core.proofs.RefusalLemmas.{refused_kept, refused_done, refused_more, truly_more}
+use Rattle.cluster_core.proofs.RunLemmas.{did_line}
+use Rattle.cluster_core.proofs.SessionLemmas.{EachSession, SessionHolds, next_line, logged_by_own, logged_by_other, own_number, other_number, session_logged, session_refused, sessions_begun, sessions_at, sessions_kept, sessions_set, sessions_ended}
 use Rattle.cluster_core.proofs.TableLemmas.{IsWhole, RowsHold, no_rows, cleared_rows, checked_rows, published_rows, told_there, replica_has_line}
 
 -- a replica follows the log, over the source's schemas
 pub record ReplicaHolds (schemas : List Schema) (log : List Entry) (node : NodeView) : Type 0 where
   pub schemas_are : node.schemas ≡ schemas
   pub follows : Follows log node.history
+
+-- each entry of a log is a session's or the tool's
+abbrev pub EachOwned : ℕ → List Entry → Type 0
+EachOwned sessions log = AllByRecursion (λ (entry : Entry). IsOwnedBy sessions entry.origin entry.statements) log
 
 -- what holds of the world after each turn
 pub record Holds (workload : Workload) (w : WorldView) : Type 0 where
@@ -45,9 +60,14 @@ pub record Holds (workload : Workload) (w : WorldView) : Type 0 where
   pub replicas : AllByRecursion (ReplicaHolds workload.schemas.tables w.source.history) w.replicas
   pub masters : MastersAreTrue w.source.schemas w.source.start w.source.history
   pub rows : RowsHold w.phase (length w.source.schemas) (replayed_of w.source).checks
+  pub scripts : map (λ (view : SessionView). view.script) w.sessions ≡ map (λ (script : Script). script.lines) workload.sessions
+  pub sessions : EachSession workload.schemas.tables w.source.history 1 w.sessions
+  pub owners : EachOwned (length w.sessions) w.source.history
+  pub refused_lines : AllByRecursion (RefusedTruly w.source) w.sessions
+  pub logged_truly : LoggedTruly w.source
 
-pub begun_holds : (workload : Workload) → Holds workload (begun workload)
-begun_holds workload = record {
+pub begun_holds : (workload : Workload) → IsWorkload workload → Holds workload (begun workload)
+begun_holds workload is = record {
   schemas = refl;
   source_start = refl;
   replica_starts = map_back (fresh workload.schemas.tables) (λ (node : NodeView). node.start) workload.copies (λ start. refl);
@@ -56,7 +76,31 @@ begun_holds workload = record {
       (λ start. record { schemas_are = refl; follows = tt }));
   masters = tt;
   rows = no_rows (length workload.schemas.tables);
+  scripts = map_after unstarted (λ (view : SessionView). view.script) (λ (script : Script). script.lines) workload.sessions (λ script. refl);
+  sessions = sessions_begun workload.schemas.tables 1 workload.sessions is.scripts;
+  owners = tt;
+  refused_lines = each_map unstarted (RefusedTruly (fresh workload.schemas.tables workload.source)) workload.sessions
+      (each_always (λ (script : Script). RefusedTruly (fresh workload.schemas.tables workload.source) (unstarted script)) workload.sessions
+      (λ script. record { rise = tt; duplicates = tt }));
+  logged_truly = λ before session entry found by. absurd (cc);
 }
+
+-- the replicas follow a log that grew
+replicas_kept : (schemas : List Schema) (log : List Entry) (entry : Entry) (nodes : List NodeView)
+    → AllByRecursion (ReplicaHolds schemas log) nodes
+    → AllByRecursion (ReplicaHolds schemas (log ++ entry ∷ [])) nodes
+replicas_kept schemas log entry nodes before =
+    each_more (ReplicaHolds schemas log) (ReplicaHolds schemas (log ++ entry ∷ [])) nodes
+    (λ node holds. record {
+      schemas_are = holds.schemas_are;
+      follows = follows_longer_log log (entry ∷ []) node.history holds.follows;
+    })
+    before
+
+owned_more : (sessions : ℕ) (log : List Entry) (entry : Entry)
+    → EachOwned sessions log → IsOwnedBy sessions entry.origin entry.statements → EachOwned sessions (log ++ entry ∷ [])
+owned_more sessions log entry before owned =
+    each_append (λ (e : Entry). IsOwnedBy sessions e.origin e.statements) log (entry ∷ []) before (owned, tt)
 
 -- the check rows of a node after the tool's statement
 logged_checks : (node : NodeView) (statement : Statement)
@@ -66,24 +110,23 @@ logged_checks node statement = ap (λ (x : Replayed). x.checks) (fold_more node.
 -- the tool logged a statement
 logged_holds : (workload : Workload) (w : WorldView) (statement : Statement) (next : ToolPhase)
     → Holds workload w
+    → IsTools statement
     → IsTrueMaster statement (replayed_of w.source)
     → RowsHold next (length w.source.schemas) (checks_after w.source.schemas (length w.source.history + 1) statement (replayed_of w.source))
     → Holds workload (tool_logged statement next w)
-logged_holds workload w statement next before true_one rows = record {
+logged_holds workload w statement next before tools true_one rows = record {
   schemas = before.schemas;
   source_start = before.source_start;
   replica_starts = before.replica_starts;
-  replicas = each_more
-      (ReplicaHolds workload.schemas.tables w.source.history)
-      (ReplicaHolds workload.schemas.tables (w.source.history ++ by_tool statement ∷ []))
-      w.replicas
-      (λ node holds. record {
-        schemas_are = holds.schemas_are;
-        follows = follows_longer_log w.source.history (by_tool statement ∷ []) node.history holds.follows;
-      })
-      before.replicas;
+  replicas = replicas_kept workload.schemas.tables w.source.history (by_tool statement) w.replicas before.replicas;
   masters = masters_more w.source.schemas w.source.start w.source.history (by_tool statement) statement before.masters refl true_one;
   rows = subst (RowsHold next (length w.source.schemas)) (sym (logged_checks w.source statement)) rows;
+  scripts = before.scripts;
+  sessions = sessions_kept workload.schemas.tables w.source.history (w.source.history ++ by_tool statement ∷ []) 1 w.sessions
+      (λ session least. logged_by_other session w.source.history (by_tool statement) refl) before.sessions;
+  owners = owned_more (length w.sessions) w.source.history (by_tool statement) before.owners (tools, tt);
+  refused_lines = refused_kept w.source (by_tool statement) w.sessions before.refused_lines;
+  logged_truly = truly_more w.source (by_tool statement) (λ session by. absurd (cc)) before.logged_truly;
 }
 
 published_holds : (workload : Workload) (table : ℕ) (row : Option CheckRow) (w v : WorldView)
@@ -96,7 +139,7 @@ published_holds workload table None w v stands rows before is = absurd (cc)
 published_holds workload table (Some row) w v stands rows before is =
     let same : tool_logged (SetMaster table 1 row.kind row.this) (next_phase table w) w ≡ v = cc in
     subst (Holds workload) same
-    (logged_holds workload w (SetMaster table 1 row.kind row.this) (next_phase table w) before (row, stands, refl, refl)
+    (logged_holds workload w (SetMaster table 1 row.kind row.this) (next_phase table w) before (λ no. no) (row, stands, refl, refl)
     (published_rows table (length w.source.schemas) row.this (replayed_of w.source).checks rows))
 
 tool_holds : (workload : Workload) (phase : ToolPhase) (w v : WorldView)
@@ -107,11 +150,11 @@ tool_holds : (workload : Workload) (phase : ToolPhase) (w v : WorldView)
 tool_holds workload (Clear table) w v rows before is =
     let same : tool_logged (ClearChecks table) (Check table) w ≡ v = cc in
     subst (Holds workload) same
-    (logged_holds workload w (ClearChecks table) (Check table) before tt (cleared_rows table (length w.source.schemas) (replayed_of w.source).checks rows))
+    (logged_holds workload w (ClearChecks table) (Check table) before (λ no. no) tt (cleared_rows table (length w.source.schemas) (replayed_of w.source).checks rows))
 tool_holds workload (Check table) w v rows before is =
     let same : tool_logged (CheckStatement table 1 whole_table Md5) (Master table) w ≡ v = cc in
     subst (Holds workload) same
-    (logged_holds workload w (CheckStatement table 1 whole_table Md5) (Master table) before tt (checked_rows table (length w.source.schemas) _ (replayed_of w.source).checks refl rows))
+    (logged_holds workload w (CheckStatement table 1 whole_table Md5) (Master table) before (λ no. no) tt (checked_rows table (length w.source.schemas) _ (replayed_of w.source).checks refl rows))
 tool_holds workload (Master table) w v rows before is =
     published_holds workload table (check_at table 1 (replayed_of w.source).checks) w v refl rows before is
 tool_holds workload Finished w v rows before is = absurd (cc)
@@ -160,6 +203,11 @@ moved_holds workload w v place node (Some new) found applied before is =
       replicas = each_set (ReplicaHolds workload.schemas.tables w.source.history) w.replicas place new before.replicas now.holds;
       masters = before.masters;
       rows = before.rows;
+      scripts = before.scripts;
+      sessions = before.sessions;
+      owners = before.owners;
+      refused_lines = before.refused_lines;
+      logged_truly = before.logged_truly;
     })
 
 worker_holds_at : (workload : Workload) (w v : WorldView) (place : ℕ) (node : Option NodeView)
@@ -179,22 +227,156 @@ seat_holds : (workload : Workload) (first : Bool) (replica : ℕ) (w v : WorldVi
 seat_holds workload true replica w v before is = worker_holds workload replica w v before is
 seat_holds workload false replica w v before is = absurd (cc)
 
-pub turn_holds : (workload : Workload) (actor : Actor) (w v : WorldView) → Holds workload w → turn actor w ≡ Some v → Holds workload v
-turn_holds workload Tool w v before is = tool_holds workload w.phase w v before.rows before is
-turn_holds workload (Worker replica worker) w v before is = seat_holds workload (worker == 1) replica w v before is
+-- a client's statement leaves the check rows
+client_checks : (schemas : List Schema) (position : ℕ) (statement : Statement) (here : Replayed) → IsClients statement → checks_after schemas position statement here ≡ here.checks
+client_checks schemas position (Insert table row) here client = refl
+client_checks schemas position (Delete table where_true) here client = refl
+client_checks schemas position (Update table sets where_true) here client = refl
+client_checks schemas position (CheckStatement table chunk span kind) here client = absurd client
+client_checks schemas position (SetMaster table chunk kind master) here client = absurd client
+client_checks schemas position (ClearChecks table) here client = absurd client
 
-after_holds_at : (workload : Workload) (actor : Actor) (w : WorldView) (next : Option WorldView) → turn actor w ≡ next → Holds workload w → Holds workload (unwrap_or next w)
-after_holds_at workload actor w None is before = before
-after_holds_at workload actor w (Some v) is before = turn_holds workload actor w v before is
+client_master : (statement : Statement) (here : Replayed) → IsClients statement → IsTrueMaster statement here
+client_master (Insert table row) here client = tt
+client_master (Delete table where_true) here client = tt
+client_master (Update table sets where_true) here client = tt
+client_master (CheckStatement table chunk span kind) here client = absurd client
+client_master (SetMaster table chunk kind master) here client = absurd client
+client_master (ClearChecks table) here client = absurd client
 
-after_turns_hold : (workload : Workload) (actors : List Actor) (w : WorldView) → Holds workload w → Holds workload (after_turns actors w)
-after_turns_hold workload [] w before = before
-after_turns_hold workload (actor ∷ actors) w before =
-    after_turns_hold workload actors (after actor w) (after_holds_at workload actor w (turn actor w) refl before)
+session_checks : (node : NodeView) (session : ℕ) (statement : Statement) → IsClients statement
+    → (replayed_of (logged node (by_session session statement))).checks ≡ (replayed_of node).checks
+session_checks node session statement client =
+    ap (λ (x : Replayed). x.checks) (fold_more node.schemas node.start node.history (by_session session statement))
+    ∙ client_checks node.schemas (length node.history + 1) statement (replayed_of node) client
+
+-- a session logged its next line
+line_logged_holds : (workload : Workload) (w : WorldView) (session : ℕ) (view : SessionView) (line : ScriptLine) (statement : Statement)
+    → 1 ≤ session
+    → slice_get w.sessions (session - 1) ≡ Some view
+    → slice_get view.script view.next ≡ Some line
+    → line.step ≡ Run statement
+    → Holds workload w
+    → is_duplicate w.source statement ≡ false
+    → Holds workload (line_logged session view statement w)
+line_logged_holds workload w session view line statement from_one found at step before new =
+    let schemas : List Schema = workload.schemas.tables in
+    let log : List Entry = w.source.history in
+    let entry : Entry = by_session session statement in
+    let done : SessionView = record view { next = view.next + 1 } in
+    let holds : SessionHolds schemas (logged_by session log) view = sessions_at schemas log 1 (session - 1) session w.sessions view (omega arith) found before.sessions in
+    let fits : StepFits schemas (Run statement) = subst (StepFits schemas) step (next_line schemas (logged_by session log) view line holds at).fits in
+    let own : logged_by session log ++ (statement ∷ []) ∷ [] ≡ logged_by session (log ++ entry ∷ []) = sym (logged_by_own session log entry (own_number session)) in
+    let within : session - 1 < length w.sessions = slice_get_within w.sessions (session - 1) view found in
+    let many : length w.sessions ≡ length (slice_set w.sessions (session - 1) done) = sym (length-set w.sessions (session - 1) done) in
+    let refused : AllByRecursion (RefusedTruly (logged w.source entry)) w.sessions = refused_kept w.source entry w.sessions before.refused_lines in
+    let owned : EachOwned (length w.sessions) (log ++ entry ∷ []) = owned_more (length w.sessions) log entry before.owners (from_one, omega arith) in
+    record {
+      schemas = before.schemas;
+      source_start = before.source_start;
+      replica_starts = before.replica_starts;
+      replicas = replicas_kept schemas log entry w.replicas before.replicas;
+      masters = masters_more w.source.schemas w.source.start log entry statement before.masters refl (client_master statement (replayed_of w.source) fits.0);
+      rows = subst (RowsHold w.phase (length w.source.schemas)) (sym (session_checks w.source session statement fits.0)) before.rows;
+      scripts = map_set_same (λ (v : SessionView). v.script) w.sessions (session - 1) view done found refl ∙ before.scripts;
+      sessions = sessions_set schemas log (log ++ entry ∷ []) 1 (session - 1) session w.sessions view done (omega arith) found
+          (λ other not. logged_by_other other log entry (other_number other session not))
+          (subst (λ (entries : List (List Statement)). SessionHolds schemas entries done) own
+          (session_logged schemas (logged_by session log) view line statement holds at step))
+          before.sessions;
+      owners = subst (λ n. EachOwned n (log ++ entry ∷ [])) many owned;
+      refused_lines = each_set (RefusedTruly (logged w.source entry)) w.sessions (session - 1) done refused
+          (refused_done (logged w.source entry) view (each_at (RefusedTruly (logged w.source entry)) w.sessions (session - 1) view refused found));
+      logged_truly = truly_more w.source entry (λ number by. (new, tt)) before.logged_truly;
+    }
+
+-- or it was refused
+line_refused_holds : (workload : Workload) (w : WorldView) (session : ℕ) (view : SessionView) (line : ScriptLine) (statement : Statement)
+    → 1 ≤ session
+    → slice_get w.sessions (session - 1) ≡ Some view
+    → slice_get view.script view.next ≡ Some line
+    → line.step ≡ Run statement
+    → Holds workload w
+    → is_duplicate w.source statement ≡ true
+    → Holds workload (line_refused session view line w)
+line_refused_holds workload w session view line statement from_one found at step before duplicate =
+    let schemas : List Schema = workload.schemas.tables in
+    let log : List Entry = w.source.history in
+    let done : SessionView = record view { next = view.next + 1; refused = view.refused ++ line.line ∷ [] } in
+    let holds : SessionHolds schemas (logged_by session log) view = sessions_at schemas log 1 (session - 1) session w.sessions view (omega arith) found before.sessions in
+    let many : length w.sessions ≡ length (slice_set w.sessions (session - 1) done) = sym (length-set w.sessions (session - 1) done) in
+    record {
+      schemas = before.schemas;
+      source_start = before.source_start;
+      replica_starts = before.replica_starts;
+      replicas = before.replicas;
+      masters = before.masters;
+      rows = before.rows;
+      scripts = map_set_same (λ (v : SessionView). v.script) w.sessions (session - 1) view done found refl ∙ before.scripts;
+      sessions = sessions_set schemas log log 1 (session - 1) session w.sessions view done (omega arith) found
+          (λ other not. refl)
+          (session_refused schemas (logged_by session log) view line holds at)
+          before.sessions;
+      owners = subst (λ n. EachOwned n log) many before.owners;
+      refused_lines = each_set (RefusedTruly w.source) w.sessions (session - 1) done before.refused_lines
+          (refused_more w.source view line statement at step (next_line schemas (logged_by session log) view line holds at).above_refused duplicate
+          (each_at (RefusedTruly w.source) w.sessions (session - 1) view before.refused_lines found));
+      logged_truly = before.logged_truly;
+    }
+
+tested : (P : WorldView → Type 0) (b : Bool) (one other : WorldView) → (b ≡ true → P one) → (b ≡ false → P other) → P (cond b one other)
+tested P true one other holds_one holds_other = holds_one refl
+tested P false one other holds_one holds_other = holds_other refl
+
+line_holds : (workload : Workload) (w : WorldView) (session : ℕ) (view : SessionView) (line : ScriptLine) (step : ScriptStep)
+    → 1 ≤ session
+    → slice_get w.sessions (session - 1) ≡ Some view
+    → slice_get view.script view.next ≡ Some line
+    → line.step ≡ step
+    → Holds workload w
+    → Holds workload (step_done session view line step w)
+line_holds workload w session view line (Run statement) from_one found at step before =
+    tested (Holds workload) (is_duplicate w.source statement) (line_refused session view line w) (line_logged session view statement w)
+    (line_refused_holds workload w session view line statement from_one found at step before)
+    (line_logged_holds workload w session view line statement from_one found at step before)
+
+session_holds : (workload : Workload) (session : ℕ) (w v : WorldView) → 1 ≤ session → Holds workload w → session_turn session w ≡ Some v → Holds workload v
+session_holds workload session w v from_one before is =
+    let did = did_line session w v is in
+    subst (Holds workload) did.done (line_holds workload w session did.view did.line did.line.step from_one did.found did.at refl before)
+
+pub turn_holds : (workload : Workload) (actor : Actor) (w v : WorldView) → IsNumbered actor → Holds workload w → turn actor w ≡ Some v → Holds workload v
+turn_holds workload (Session session) w v numbered before is = session_holds workload session w v numbered before is
+turn_holds workload Tool w v numbered before is = tool_holds workload w.phase w v before.rows before is
+turn_holds workload (Worker replica worker) w v numbered before is = seat_holds workload (worker == 1) replica w v before is
+
+after_holds_at : (workload : Workload) (actor : Actor) (w : WorldView) (next : Option WorldView)
+    → IsNumbered actor → turn actor w ≡ next → Holds workload w → Holds workload (unwrap_or next w)
+after_holds_at workload actor w None numbered is before = before
+after_holds_at workload actor w (Some v) numbered is before = turn_holds workload actor w v numbered before is
+
+pub after_turns_hold : (workload : Workload) (actors : List Actor) (w : WorldView) → AllByRecursion IsNumbered actors → Holds workload w → Holds workload (after_turns actors w)
+after_turns_hold workload [] w numbered before = before
+after_turns_hold workload (actor ∷ actors) w numbered before =
+    after_turns_hold workload actors (after actor w) numbered.1 (after_holds_at workload actor w (turn actor w) numbered.0 refl before)
+
+sessions_numbered : (number : ℕ) (views : List SessionView) → 1 ≤ number → AllByRecursion IsNumbered (sessions_from number views)
+sessions_numbered number [] from_one = tt
+sessions_numbered number (view ∷ views) from_one = (from_one, sessions_numbered (number + 1) views (omega arith))
+
+workers_numbered : (number : ℕ) (nodes : List NodeView) → 1 ≤ number → AllByRecursion IsNumbered (workers_from number nodes)
+workers_numbered number [] from_one = tt
+workers_numbered number (node ∷ nodes) from_one = (from_one, workers_numbered (number + 1) nodes (omega arith))
+
+-- the actors of a round are numbered from 1
+pub order_numbered : (w : WorldView) → AllByRecursion IsNumbered (order w)
+order_numbered w =
+    each_append IsNumbered (sessions_from 1 w.sessions) (Tool ∷ workers_from 1 w.replicas)
+    (sessions_numbered 1 w.sessions (omega arith)) (tt, workers_numbered 1 w.replicas (omega arith))
 
 rounds_hold : (workload : Workload) (count : ℕ) (w : WorldView) → Holds workload w → Holds workload (rounds count w)
 rounds_hold workload zero w before = before
-rounds_hold workload (suc count) w before = rounds_hold workload count (round w) (after_turns_hold workload (order w) w before)
+rounds_hold workload (suc count) w before = rounds_hold workload count (round w) (after_turns_hold workload (order w) w (order_numbered w) before)
 
 -- where the tool can't move, it is through all tables
 pub record ToolEnded (phase : ToolPhase) (tables : ℕ) (checks : List CheckEntry) : Type 0 where
@@ -245,29 +427,8 @@ pub record Ended (schemas : List Schema) (log : List Entry) (node : NodeView) : 
   pub schemas_are : node.schemas ≡ schemas
   pub applied : AppliedAll log node
 
--- the last replicas of a world, of which the first has this number
-pub record LastFrom (w : WorldView) (number : ℕ) (nodes : List NodeView) : Type 0 where
-  pub front : List NodeView
-  pub counted : length front + 1 ≡ number
-  pub all : w.replicas ≡ front ++ nodes
-
-last_all : (w : WorldView) → LastFrom w 1 w.replicas
-last_all w = record { front = []; counted = omega arith; all = refl }
-
-last_first : (w : WorldView) (number : ℕ) (node : NodeView) (nodes : List NodeView) → LastFrom w number (node ∷ nodes) → slice_get w.replicas (number - 1) ≡ Some node
-last_first w number node nodes last =
-    let at : number - 1 ≡ length last.front = omega (arith, last.counted) in
-    ap (λ n. slice_get w.replicas n) at ∙ ap (λ (xs : List NodeView). slice_get xs (length last.front)) last.all ∙ slice_get_after last.front node nodes
-
-last_more : (w : WorldView) (number : ℕ) (node : NodeView) (nodes : List NodeView) → LastFrom w number (node ∷ nodes) → LastFrom w (number + 1) nodes
-last_more w number node nodes last = record {
-  front = last.front ++ node ∷ [];
-  counted = omega (arith, length-append last.front (node ∷ []), last.counted);
-  all = last.all ∙ sym (append_assoc last.front (node ∷ []) nodes);
-}
-
 replicas_ended : (w : WorldView) (schemas : List Schema) (number : ℕ) (nodes : List NodeView)
-    → LastFrom w number nodes
+    → LastFrom w.replicas number nodes
     → AllByRecursion (ReplicaHolds schemas w.source.history) nodes
     → AllByRecursion (λ actor. turn actor w ≡ None) (workers_from number nodes)
     → AllByRecursion (Ended schemas w.source.history) nodes
@@ -275,9 +436,9 @@ replicas_ended w schemas number [] last holds still = tt
 replicas_ended w schemas number (node ∷ nodes) last holds still = (
   record {
     schemas_are = holds.0.schemas_are;
-    applied = replica_ended w schemas number node (last_first w number node nodes last) holds.0 still.0;
+    applied = replica_ended w schemas number node (last_first w.replicas number node nodes last) holds.0 still.0;
   },
-  replicas_ended w schemas (number + 1) nodes (last_more w number node nodes last) holds.1 still.1,
+  replicas_ended w schemas (number + 1) nodes (last_more w.replicas number node nodes last) holds.1 still.1,
 )
 
 -- a line that is known, and compares what it says that it does
@@ -375,7 +536,7 @@ node_lines_known w number node from_one found ended_source ended =
     (each_placed own source))
 
 lines_known : (w : WorldView) (number : ℕ) (nodes : List NodeView)
-    → LastFrom w number nodes
+    → LastFrom w.replicas number nodes
     → SourceEnded w
     → AllByRecursion (Ended w.source.schemas w.source.history) nodes
     → AllByRecursion (LineIsKnown w) (verdicts_from number (replayed_of w.source).checks nodes)
@@ -383,8 +544,8 @@ lines_known w number [] last source ended = tt
 lines_known w number (node ∷ nodes) last source ended =
     let from_one : 1 ≤ number = omega (arith, last.counted) in
     each_append (LineIsKnown w) (replica_verdicts number (replayed_of w.source).checks (replayed_of node).checks) (verdicts_from (number + 1) (replayed_of w.source).checks nodes)
-    (node_lines_known w number node from_one (last_first w number node nodes last) source ended.0)
-    (lines_known w (number + 1) nodes (last_more w number node nodes last) source ended.1)
+    (node_lines_known w number node from_one (last_first w.replicas number node nodes last) source ended.0)
+    (lines_known w (number + 1) nodes (last_more w.replicas number node nodes last) source ended.1)
 
 -- no table of any replica is passed over
 table_has_line : (w : WorldView) (replica table : ℕ)
@@ -402,18 +563,27 @@ table_has_line w replica table source ended from_one most within =
 
 ended_holds : (workload : Workload) (w : WorldView) → Holds workload w → IsStill w → RunHolds workload w
 ended_holds workload w holds still =
-    let tool = tool_ended w.phase w holds.rows still.0 in
+    let sessions_still : AllByRecursion (λ actor. turn actor w ≡ None) (sessions_from 1 w.sessions) =
+    each_first (λ actor. turn actor w ≡ None) (sessions_from 1 w.sessions) (Tool ∷ workers_from 1 w.replicas) still in
+    let others_still : AllByRecursion (λ actor. turn actor w ≡ None) (Tool ∷ workers_from 1 w.replicas) =
+    each_rest (λ actor. turn actor w ≡ None) (sessions_from 1 w.sessions) (Tool ∷ workers_from 1 w.replicas) still in
+    let tool = tool_ended w.phase w holds.rows others_still.0 in
     let source : SourceEnded w = record { masters = holds.masters; rows = tool.rows } in
-    let replicas = replicas_ended w workload.schemas.tables 1 w.replicas (last_all w) holds.replicas still.1 in
+    let replicas = replicas_ended w workload.schemas.tables 1 w.replicas (last_all w.replicas) holds.replicas others_still.1 in
     let nodes : AllByRecursion (Ended w.source.schemas w.source.history) w.replicas =
     subst (λ (s : List Schema). AllByRecursion (Ended s w.source.history) w.replicas) (sym holds.schemas) replicas in
-    let lines = lines_known w 1 w.replicas (last_all w) source nodes in
+    let lines = lines_known w 1 w.replicas (last_all w.replicas) source nodes in
     record {
       schemas = holds.schemas;
       source_start = holds.source_start;
       replica_starts = holds.replica_starts;
       replica_schemas = each_more (Ended workload.schemas.tables w.source.history) (λ (node : NodeView). node.schemas ≡ workload.schemas.tables) w.replicas (λ node ended. ended.schemas_are) replicas;
       masters = holds.masters;
+      scripts = holds.scripts;
+      own_calls = sessions_ended w workload.schemas.tables 1 w.sessions (last_all w.sessions) holds.sessions sessions_still;
+      owners = holds.owners;
+      refused_lines = holds.refused_lines;
+      logged_truly = holds.logged_truly;
       histories = each_more (Ended workload.schemas.tables w.source.history) (AppliedAll w.source.history) w.replicas (λ node ended. ended.applied) replicas;
       finished = tool.finished;
       none_pending = each_more (LineIsKnown w) (λ (line : VerdictLine). line.verdict ≢ Pending) (verdicts_of w) (λ line is. is.known) lines;
@@ -424,4 +594,4 @@ ended_holds workload w holds still =
 
 pub each_run : (workload : Workload) (last : WorldView) → IsWorkload workload → EndsIn (begun workload) last → RunHolds workload last
 each_run workload last is ends =
-    ended_holds workload last (subst (Holds workload) (sym ends.reached) (rounds_hold workload ends.count (begun workload) (begun_holds workload))) ends.still
+    ended_holds workload last (subst (Holds workload) (sym ends.reached) (rounds_hold workload ends.count (begun workload) (begun_holds workload is))) ends.still

@@ -1,8 +1,11 @@
 pub mod EachLemmas
 pub mod HeadlineLemmas
+pub mod KeptLemmas
 pub mod MasterLemmas
 pub mod NodeLemmas
 pub mod OrderLemmas
+pub mod RefusalLemmas
 pub mod ReportLemmas
 pub mod RunLemmas
+pub mod SessionLemmas
 pub mod TableLemmas

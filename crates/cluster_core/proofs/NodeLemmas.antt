@@ -1,6 +1,7 @@
--- Tables whose rows fit can be encoded, and a statement's check rows over tables that stay.
-use Rattle.std.proofs.Common.{◌≡◌, ℕ, zero, suc, ◌<◌, ◌^◌, ◌+◌, List, [], ◌∷◌, ◌++◌, length, refl, ap, sym, ◌∙◌, subst, arith, Some}
-use Rattle.std.specs.Prelude.{slice_index_or}
+-- Tables whose rows fit can be encoded, and what a node keeps after one more statement.
+use Rattle.std.proofs.Common.{◌≡◌, ℕ, zero, suc, ◌<◌, ◌^◌, ◌+◌, List, [], ◌∷◌, ◌++◌, length, refl, ap, sym, ◌∙◌, subst, arith, Option, Some, None, ◌≤◌}
+use Rattle.std.specs.Prelude.{slice_index_or, slice_set}
+use Rattle.std.specs.Option.{option_map_or}
 use Rattle.std.specs.List.{AllByRecursion, slice_get}
 use Rattle.row_types.specs.declared.values.Value.{Value}
 use Rattle.row_types.specs.declared.values.Value.TheVariants.{Null, Int, Text as OneText}
@@ -9,13 +10,19 @@ use Rattle.row_types.specs.declared.table_schema.ColumnKind.TheVariants.{Int as 
 use Rattle.row_types.specs.declared.table_schema.Column.{Column}
 use Rattle.row_types.specs.declared.table_schema.Schema.{Schema}
 use Rattle.row_types.specs.Fit.{IsSchema, IsTable, AreTables, ValuesFit, ValueFits, TextFits, KindFits, LengthFits}
+use Rattle.std.proofs.lemmas.List.{set-get_or}
 use Rattle.ptc_statement.specs.declared.statements.Statement.{Statement}
+use Rattle.ptc_statement.specs.Effect.{table_of, rows_after}
+use Rattle.ptc_statement.specs.Fits.{FitsSchemas}
+use Rattle.ptc_statement.specs.Planned.{IsRising, replaced}
+use Rattle.ptc_statement.proofs.TableLemmas.{rows_after_table, table_rises}
 use Rattle.history.specs.declared.entries.Entry.{Entry}
 use Rattle.history.specs.declared.checks.CheckEntry.{CheckEntry}
 use Rattle.history.specs.Digest.{IsCheckable, ValueIsShort}
-use Rattle.history.specs.Replay.{checks_after, after_statement, after_statements, after_entry, fold, position_of}
-use Rattle.history.proofs.ReplayLemmas.{tables_after-unchanged, fold_more}
-use Rattle.cluster_core.specs.Checkable.{AreCheckable}
+use Rattle.history.specs.Replay.{checks_after, tables_after, table_rows, after_statement, after_entry, fold, position_of}
+use Rattle.history.proofs.ReplayLemmas.{fold_more}
+use Rattle.history.specs.declared.entries.Origin.{Origin}
+use Rattle.cluster_core.specs.Checkable.{AreCheckable, with_change}
 
 pub checkable_at : (schemas : List Schema) (tables : List (List (List Value))) (table : ℕ) (schema : Schema)
     → AreCheckable schemas tables → slice_get schemas table ≡ Some schema
@@ -71,34 +78,103 @@ are_checkable (schema ∷ schemas) [] all fit = absurd fit
 are_checkable (schema ∷ schemas) (rows ∷ tables) all fit =
     (rows_are_checkable schema rows all.0 fit.0, are_checkable schemas tables all.1 fit.1)
 
--- one more statement, whose check rows are these
-pub after_one : (schemas : List Schema) (position : ℕ) (statement : Statement) (statements : List Statement)
-    (tables : List (List (List Value))) (checks next : List CheckEntry)
-    → next ≡ checks_after schemas position statement (record { tables = tables; checks = checks })
-    → after_statements schemas position (statement ∷ statements) (record { tables = tables; checks = checks })
-    ≡ after_statements schemas position statements (record { tables = tables; checks = next })
-after_one schemas position statement statements tables checks next is =
-    let same : after_statement schemas position statement (record { tables = tables; checks = checks }) ≡ record { tables = tables; checks = next } =
-    rw (← is) (ap (λ (t : List (List (List Value))). record { tables = t; checks = next }) (tables_after-unchanged statement tables)) in
-    ap (after_statements schemas position statements) same
+schema_at : (schemas : List Schema) (table : ℕ) (schema : Schema) → AllByRecursion IsSchema schemas → slice_get schemas table ≡ Some schema → IsSchema schema
+schema_at [] table schema all found = absurd (cc)
+schema_at (first ∷ schemas) zero schema all found =
+    let same : first ≡ schema = cc in
+    subst IsSchema same all.0
+schema_at (first ∷ schemas) (suc table) schema all found = schema_at schemas table schema all.1 found
 
--- what a node keeps after one more entry
-pub log_keeps : (schemas : List Schema) (start : List (List (List Value))) (history new : List Entry) (entry : Entry) (number position : ℕ) (live : List (List (List Value))) (checks next : List CheckEntry)
+table_at : (schemas : List Schema) (tables : List (List (List Value))) (table : ℕ) (schema : Schema) → AreTables schemas tables → slice_get schemas table ≡ Some schema
+    → IsTable schema (slice_index_or tables table [])
+table_at [] tables table schema are found = absurd (cc)
+table_at (first ∷ schemas) [] table schema are found = absurd are
+table_at (first ∷ schemas) (rows ∷ tables) zero schema are found =
+    let same : first ≡ schema = cc in
+    subst (λ (s : Schema). IsTable s rows) same are.0
+table_at (first ∷ schemas) (rows ∷ tables) (suc table) schema are found = table_at schemas tables table schema are.1 found
+
+-- the rows of a node's table rise
+pub rising_at : (schemas : List Schema) (tables : List (List (List Value))) (table : ℕ) (schema : Schema) → AllByRecursion IsSchema schemas → AreTables schemas tables
+    → slice_get schemas table ≡ Some schema → IsRising schema (slice_index_or tables table [])
+rising_at schemas tables table schema all are found =
+    table_rises schema (slice_index_or tables table []) (schema_at schemas table schema all found) (table_at schemas tables table schema are found)
+
+set_table : (schemas : List Schema) (tables : List (List (List Value))) (table : ℕ) (schema : Schema) (new : List (List Value)) → AreTables schemas tables
+    → slice_get schemas table ≡ Some schema → IsTable schema new → AreTables schemas (slice_set tables table new)
+set_table [] tables table schema new are found is = absurd (cc)
+set_table (first ∷ schemas) [] table schema new are found is = absurd are
+set_table (first ∷ schemas) (rows ∷ tables) zero schema new are found is =
+    let same : schema ≡ first = cc in
+    (subst (λ (s : Schema). IsTable s new) same is, are.1)
+set_table (first ∷ schemas) (rows ∷ tables) (suc table) schema new are found is = (are.0, set_table schemas tables table schema new are.1 found is)
+
+-- where no schema stands, a statement leaves the tables
+pub tables_stay : (schemas : List Schema) (statement : Statement) (tables : List (List (List Value))) → slice_get schemas (table_of statement) ≡ None
+    → tables_after schemas statement tables ≡ tables
+tables_stay schemas statement tables absent =
+    ap (λ (o : Option Schema). option_map_or (λ (schema : Schema). slice_set tables (table_of statement) (rows_after schema statement (table_rows tables (table_of statement)))) o tables) absent
+
+-- where one stands, it changes its table's rows
+pub tables_change : (schemas : List Schema) (statement : Statement) (tables : List (List (List Value))) (schema : Schema) → slice_get schemas (table_of statement) ≡ Some schema
+    → tables_after schemas statement tables ≡ slice_set tables (table_of statement) (rows_after schema statement (table_rows tables (table_of statement)))
+tables_change schemas statement tables schema found =
+    ap (λ (o : Option Schema). option_map_or (λ (schema : Schema). slice_set tables (table_of statement) (rows_after schema statement (table_rows tables (table_of statement)))) o tables) found
+
+-- so a change that isn't one is right where no schema stands
+pub stays_by_change : (schemas : List Schema) (statement : Statement) (tables : List (List (List Value))) (rows : List (List Value)) → slice_get schemas (table_of statement) ≡ None → rows ≡ []
+    → tables_after schemas statement tables ≡ with_change tables (table_of statement) 0 0 rows
+stays_by_change schemas statement tables rows absent none =
+    tables_stay schemas statement tables absent ∙ sym (set-get_or tables (table_of statement) [])
+    ∙ ap (λ (rs : List (List Value)). with_change tables (table_of statement) 0 0 rs) (sym none)
+
+pub changes_by_change : (schemas : List Schema) (statement : Statement) (tables : List (List (List Value))) (schema : Schema) (from to : ℕ) (rows : List (List Value))
+    → slice_get schemas (table_of statement) ≡ Some schema
+    → rows_after schema statement (table_rows tables (table_of statement)) ≡ replaced from to rows (table_rows tables (table_of statement))
+    → tables_after schemas statement tables ≡ with_change tables (table_of statement) from to rows
+changes_by_change schemas statement tables schema from to rows found planned =
+    tables_change schemas statement tables schema found ∙ ap (slice_set tables (table_of statement)) planned
+
+-- a statement that fits leaves tables
+tables_after_at : (schemas : List Schema) (statement : Statement) (tables : List (List (List Value))) (o : Option Schema) → slice_get schemas (table_of statement) ≡ o → AreTables schemas tables
+    → FitsSchemas schemas statement → AreTables schemas (tables_after schemas statement tables)
+tables_after_at schemas statement tables None absent are fits = subst (AreTables schemas) (sym (tables_stay schemas statement tables absent)) are
+tables_after_at schemas statement tables (Some schema) found are fits =
+    subst (AreTables schemas) (sym (tables_change schemas statement tables schema found))
+    (set_table schemas tables (table_of statement) schema (rows_after schema statement (table_rows tables (table_of statement))) are found
+    (rows_after_table schema statement (table_rows tables (table_of statement)) (fits schema found) (table_at schemas tables (table_of statement) schema are found)))
+
+pub tables_after_tables : (schemas : List Schema) (statement : Statement) (tables : List (List (List Value))) → AreTables schemas tables → FitsSchemas schemas statement
+    → AreTables schemas (tables_after schemas statement tables)
+tables_after_tables schemas statement tables = tables_after_at schemas statement tables (slice_get schemas (table_of statement)) refl
+
+-- what a node keeps after one more statement
+pub log_keeps : (schemas : List Schema) (start : List (List (List Value))) (history new : List Entry) (origin : Origin) (statement : Statement) (number position : ℕ)
+    (live after : List (List (List Value))) (checks next : List CheckEntry)
     → (fold schemas start history).tables ≡ live
     → (fold schemas start history).checks ≡ checks
     → number ≡ length history
-    → position ≡ position_of (number + 1) entry.origin
-    → after_statements schemas position entry.statements (record { tables = live; checks = checks }) ≡ record { tables = live; checks = next }
-    → new ≡ history ++ entry ∷ []
-    → fold schemas start new ≡ record { tables = live; checks = next }
-log_keeps schemas start history new entry number position live checks next tables_are checks_are counted at after grown =
+    → position ≡ position_of (number + 1) origin
+    → tables_after schemas statement live ≡ after
+    → next ≡ checks_after schemas position statement (record { tables = live; checks = checks })
+    → new ≡ history ++ record { origin = origin; statements = statement ∷ [] } ∷ []
+    → fold schemas start new ≡ record { tables = after; checks = next }
+log_keeps schemas start history new origin statement number position live after checks next tables_are checks_are counted at changed checked grown =
     let here : fold schemas start history ≡ record { tables = live; checks = checks } =
     ap (λ (t : List (List (List Value))). record { tables = t; checks = (fold schemas start history).checks }) tables_are
     ∙ ap (λ (cs : List CheckEntry). record { tables = live; checks = cs }) checks_are in
-    let place : position_of (length history + 1) entry.origin ≡ position =
-    ap (λ n. position_of (n + 1) entry.origin) (sym counted) ∙ sym at in
+    let entry : Entry = record { origin = origin; statements = statement ∷ [] } in
+    let place : position_of (length history + 1) origin ≡ position =
+    ap (λ n. position_of (n + 1) origin) (sym counted) ∙ sym at in
     ap (fold schemas start) grown
     ∙ fold_more schemas start history entry
     ∙ ap (after_entry schemas (length history + 1) entry) here
-    ∙ ap (λ p. after_statements schemas p entry.statements (record { tables = live; checks = checks })) place
-    ∙ after
+    ∙ ap (λ p. after_statement schemas p statement (record { tables = live; checks = checks })) place
+    ∙ ap (λ (t : List (List (List Value))). record { tables = t; checks = checks_after schemas position statement (record { tables = live; checks = checks }) }) changed
+    ∙ ap (λ (cs : List CheckEntry). record { tables = after; checks = cs }) (sym checked)
+
+-- a table that isn't there has no row to replace
+pub set_nothing : (tables : List (List (List Value))) (table : ℕ) (rows : List (List Value)) → length tables ≤ table → slice_set tables table rows ≡ tables
+set_nothing [] table rows le = refl
+set_nothing (first ∷ tables) zero rows le = absurd (omega arith)
+set_nothing (first ∷ tables) (suc table) rows le = ap (λ (ts : List (List (List Value))). first ∷ ts) (set_nothing tables table rows (omega arith))

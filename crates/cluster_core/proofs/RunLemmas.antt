@@ -1,15 +1,19 @@
 -- Turns one after the other: each that moves leaves fewer, so that rounds come to an end.
-use Rattle.std.proofs.Common.{◌≡◌, ℕ, zero, suc, ◌+◌, ◌-◌, ◌<◌, ◌≤◌, ◌||◌, ◌==◌, List, [], ◌∷◌, ◌++◌, length, take, refl, ap, sym, ◌∙◌, subst, arith, length-append, add-one, Option, Some, None, Bool, true, false, Result, Ok, Err, cond, nat_lt}
-use Rattle.std.specs.Prelude.{slice_index_or, slice_set, unwrap_or, option_and_then}
+use Rattle.std.proofs.Common.{◌≡◌, ℕ, zero, suc, ◌+◌, ◌-◌, ◌<◌, ◌≤◌, ◌||◌, ◌==◌, List, [], ◌∷◌, ◌++◌, length, take, refl, ap, sym, ◌∙◌, subst, arith, length-append, append_assoc, add-one, Option, Some, None, Bool, true, false, Result, Ok, Err, cond, nat_lt}
+use Rattle.std.specs.Prelude.{slice_index_or, slice_set, unwrap_or, option_and_then, option_map}
 use Rattle.std.specs.List.{AllByRecursion, slice_get}
 use Rattle.std.specs.Result.{OnErr}
 use Rattle.std.proofs.Math.Nat.{mul-le-mul_left}
 use Rattle.std.proofs.Math.ListN.{length-set}
+use Rattle.std.proofs.Math.Seq.{take-length}
 use Rattle.std.proofs.lemmas.List.{set-get_or}
 use Rattle.std.proofs.lemmas.Option.{slice_get_within}
 use borrow.Author.Tests.{ltb-true}
 use Rattle.ptc_statement.specs.declared.statements.Statement.{Statement}
 use Rattle.ptc_statement.specs.declared.statements.Statement.TheVariants.{Check as CheckStatement, SetMaster, ClearChecks}
+use Rattle.ptc_statement.specs.declared.scripts.ScriptLine.{ScriptLine}
+use Rattle.ptc_statement.specs.declared.scripts.ScriptStep.{ScriptStep}
+use Rattle.ptc_statement.specs.declared.scripts.ScriptStep.TheVariants.{Run}
 use Rattle.row_types.specs.declared.digests.DigestKind.TheVariants.{Md5}
 use Rattle.history.specs.declared.entries.Entry.{Entry}
 use Rattle.history.specs.declared.checks.CheckRow.{CheckRow}
@@ -17,10 +21,10 @@ use Rattle.history.specs.Checks.{check_at}
 use Rattle.history.specs.Replay.{applied_of, applying}
 use Rattle.history.proofs.ReplayLemmas.{applied_of-more}
 use Rattle.cluster_core.specs.Node.{NodeView, logged, replayed_of}
-use Rattle.cluster_core.specs.World.{WorldView, turn, tool_turn_in, tool_logged, published, next_phase, next_applied, whole_table, worker_turn, after, after_turns, workers_from, order, round, rounds, IsStill, EndsIn, Reaches}
-use Rattle.cluster_core.specs.Turns.{Takes, TookTurns, entries_left, lags, turns_left}
+use Rattle.cluster_core.specs.World.{SessionView, WorldView, turn, is_duplicate, line_logged, line_refused, step_done, line_turn, session_turn, tool_turn_in, tool_logged, published, next_phase, next_applied, whole_table, worker_turn, after, after_turns, sessions_from, workers_from, order, round, rounds, IsStill, EndsIn, Reaches}
+use Rattle.cluster_core.specs.Turns.{Takes, TookTurns, entries_left, lags, lines_left, turns_left}
 use Rattle.cluster_core.specs.declared.actors.Actor.{Actor}
-use Rattle.cluster_core.specs.declared.actors.Actor.TheVariants.{Tool, Worker}
+use Rattle.cluster_core.specs.declared.actors.Actor.TheVariants.{Session, Tool, Worker}
 use Rattle.cluster_core.specs.declared.actors.ToolPhase.{ToolPhase}
 use Rattle.cluster_core.specs.declared.actors.ToolPhase.TheVariants.{Clear, Check, Master, Finished}
 
@@ -43,6 +47,73 @@ pub slice_get-within : {A : Type 0} → (xs : List A) (i : ℕ) (d : A) → i < 
 slice_get-within [] i d within = absurd (omega arith)
 slice_get-within (x ∷ xs) zero d within = refl
 slice_get-within (x ∷ xs) (suc i) d within = slice_get-within xs i d (omega arith)
+
+pub slice_get-past : {A : Type 0} → (xs : List A) (i : ℕ) → length xs ≤ i → slice_get xs i ≡ None
+slice_get-past [] i past = refl
+slice_get-past (x ∷ xs) zero past = absurd (omega arith)
+slice_get-past (x ∷ xs) (suc i) past = slice_get-past xs i (omega arith)
+
+-- a turn that gives no next state, and one that does
+pub takes_none : {A : Type 0} (next : Option A) (old : A) → next ≡ None → Takes next false old old
+takes_none None old is = record { did = refl; state = refl }
+takes_none (Some new) old is = absurd (cc)
+
+pub takes_some : {A : Type 0} (next : Option A) (old new : A) → next ≡ Some new → Takes next true old new
+takes_some None old new is = absurd (cc)
+takes_some (Some v) old new is =
+    let same : v ≡ new = cc in
+    record { did = refl; state = sym same }
+
+-- a session's turn, from its next line
+session_found : (w : WorldView) (session : ℕ) (view : SessionView)
+    → session - 1 < length w.sessions
+    → view ≡ slice_index_or w.sessions (session - 1) view
+    → session_turn session w ≡ line_turn session view w
+session_found w session view within is =
+    let found : slice_get w.sessions (session - 1) ≡ Some view = slice_get-within w.sessions (session - 1) view within ∙ ap (λ (v : SessionView). Some v) (sym is) in
+    ap (option_and_then (λ (v : SessionView). line_turn session v w)) found
+
+pub session_still : (w : WorldView) (session : ℕ) (view : SessionView)
+    → session - 1 < length w.sessions
+    → view ≡ slice_index_or w.sessions (session - 1) view
+    → slice_get view.script view.next ≡ None
+    → session_turn session w ≡ None
+session_still w session view within is none =
+    session_found w session view within is
+    ∙ ap (option_map (λ (line : ScriptLine). step_done session view line line.step w)) none
+
+session_does : (w : WorldView) (session : ℕ) (view : SessionView) (line : ScriptLine) (statement : Statement)
+    → session - 1 < length w.sessions
+    → view ≡ slice_index_or w.sessions (session - 1) view
+    → slice_get view.script view.next ≡ Some line
+    → line.step ≡ Run statement
+    → session_turn session w ≡ Some (cond (is_duplicate w.source statement) (line_refused session view line w) (line_logged session view statement w))
+session_does w session view line statement within is at step =
+    session_found w session view within is
+    ∙ ap (option_map (λ (l : ScriptLine). step_done session view l l.step w)) at
+    ∙ ap (λ (s : ScriptStep). Some (step_done session view line s w)) step
+
+pub session_refuses : (w : WorldView) (session : ℕ) (view : SessionView) (line : ScriptLine) (statement : Statement)
+    → session - 1 < length w.sessions
+    → view ≡ slice_index_or w.sessions (session - 1) view
+    → slice_get view.script view.next ≡ Some line
+    → line.step ≡ Run statement
+    → is_duplicate w.source statement ≡ true
+    → session_turn session w ≡ Some (line_refused session view line w)
+session_refuses w session view line statement within is at step duplicate =
+    session_does w session view line statement within is at step
+    ∙ ap (λ b. Some (cond b (line_refused session view line w) (line_logged session view statement w))) duplicate
+
+pub session_logs : (w : WorldView) (session : ℕ) (view : SessionView) (line : ScriptLine) (statement : Statement)
+    → session - 1 < length w.sessions
+    → view ≡ slice_index_or w.sessions (session - 1) view
+    → slice_get view.script view.next ≡ Some line
+    → line.step ≡ Run statement
+    → is_duplicate w.source statement ≡ false
+    → session_turn session w ≡ Some (line_logged session view statement w)
+session_logs w session view line statement within is at step new =
+    session_does w session view line statement within is at step
+    ∙ ap (λ b. Some (cond b (line_refused session view line w) (line_logged session view statement w))) new
 
 -- a worker's turn, from that of its node
 took_step : (w : WorldView) (place : ℕ) (node new : NodeView) (moved : Bool) (next : Option NodeView)
@@ -167,7 +238,92 @@ worker_nearer replica w v is =
           ] refl step)
     ] refl is
 
+-- a session with one line less to do
+lines_set : (views : List SessionView) (place : ℕ) (view new : SessionView)
+    → slice_get views place ≡ Some view
+    → length new.script - new.next < length view.script - view.next
+    → lines_left (slice_set views place new) < lines_left views
+lines_set [] place view new found less = absurd (cc)
+lines_set (first ∷ views) zero view new found less =
+    let same : first ≡ view = cc in
+    let left : length first.script - first.next ≡ length view.script - view.next = ap (λ (v : SessionView). length v.script - v.next) same in
+    omega arith
+lines_set (first ∷ views) (suc place) view new found less = omega (arith, lines_set views place view new found less)
+
+line_logged_nearer : (session : ℕ) (view : SessionView) (statement : Statement) (w : WorldView)
+    → slice_get w.sessions (session - 1) ≡ Some view
+    → view.next < length view.script
+    → turns_left (line_logged session view statement w) < turns_left w
+line_logged_nearer session view statement w found within =
+    let done : SessionView = record view { next = view.next + 1 } in
+    let lines : lines_left (slice_set w.sessions (session - 1) done) < lines_left w.sessions = lines_set w.sessions (session - 1) view done found (omega arith) in
+    let less : entries_left (length w.source.schemas) w.phase + lines_left (slice_set w.sessions (session - 1) done)
+    < entries_left (length w.source.schemas) w.phase + lines_left w.sessions = omega arith in
+    let grown : length (line_logged session view statement w).source.history ≡ length w.source.history + 1 = simp length-append (omega arith) in
+    let lag : lags (length (line_logged session view statement w).source.history) w.replicas ≤ lags (length w.source.history) w.replicas + length w.replicas =
+    rw grown (lags_grow (length w.source.history) w.replicas) in
+    omega (arith, mul-le-mul_left (length w.replicas + 1) less)
+
+line_refused_nearer : (session : ℕ) (view : SessionView) (line : ScriptLine) (w : WorldView)
+    → slice_get w.sessions (session - 1) ≡ Some view
+    → view.next < length view.script
+    → turns_left (line_refused session view line w) < turns_left w
+line_refused_nearer session view line w found within =
+    let done : SessionView = record view { next = view.next + 1; refused = view.refused ++ line.line ∷ [] } in
+    let lines : lines_left (slice_set w.sessions (session - 1) done) < lines_left w.sessions = lines_set w.sessions (session - 1) view done found (omega arith) in
+    let less : entries_left (length w.source.schemas) w.phase + lines_left (slice_set w.sessions (session - 1) done)
+    < entries_left (length w.source.schemas) w.phase + lines_left w.sessions = omega arith in
+    omega (arith, mul-le-mul_left (length w.replicas + 1) less)
+
+-- a session that moved did its next line
+pub record DidLine (session : ℕ) (w v : WorldView) : Type 0 where
+  pub view : SessionView
+  pub found : slice_get w.sessions (session - 1) ≡ Some view
+  pub line : ScriptLine
+  pub at : slice_get view.script view.next ≡ Some line
+  pub done : step_done session view line line.step w ≡ v
+
+did_line_of : (session : ℕ) (w v : WorldView) (view : SessionView) (next : Option ScriptLine)
+    → slice_get w.sessions (session - 1) ≡ Some view
+    → slice_get view.script view.next ≡ next
+    → option_map (λ (line : ScriptLine). step_done session view line line.step w) next ≡ Some v
+    → DidLine session w v
+did_line_of session w v view None found at is = absurd (cc)
+did_line_of session w v view (Some line) found at is =
+    let same : step_done session view line line.step w ≡ v = cc in
+    record { view = view; found = found; line = line; at = at; done = same }
+
+did_line_at : (session : ℕ) (w v : WorldView) (view : Option SessionView)
+    → slice_get w.sessions (session - 1) ≡ view
+    → option_and_then (λ (view : SessionView). line_turn session view w) view ≡ Some v
+    → DidLine session w v
+did_line_at session w v None found is = absurd (cc)
+did_line_at session w v (Some view) found is = did_line_of session w v view (slice_get view.script view.next) found refl is
+
+pub did_line : (session : ℕ) (w v : WorldView) → session_turn session w ≡ Some v → DidLine session w v
+did_line session w v is = did_line_at session w v (slice_get w.sessions (session - 1)) refl is
+
+pub either_of : (P : WorldView → Type 0) (b : Bool) (one other : WorldView) → P one → P other → P (cond b one other)
+either_of P true one other holds_one holds_other = holds_one
+either_of P false one other holds_one holds_other = holds_other
+
+step_nearer : (session : ℕ) (view : SessionView) (line : ScriptLine) (step : ScriptStep) (w : WorldView)
+    → slice_get w.sessions (session - 1) ≡ Some view
+    → view.next < length view.script
+    → turns_left (step_done session view line step w) < turns_left w
+step_nearer session view line (Run statement) w found within =
+    either_of (λ (v : WorldView). turns_left v < turns_left w) (is_duplicate w.source statement)
+    (line_refused session view line w) (line_logged session view statement w)
+    (line_refused_nearer session view line w found within) (line_logged_nearer session view statement w found within)
+
+session_nearer : (session : ℕ) (w v : WorldView) → session_turn session w ≡ Some v → turns_left v < turns_left w
+session_nearer session w v is =
+    let did = did_line session w v is in
+    subst (λ (v : WorldView). turns_left v < turns_left w) did.done
+    (step_nearer session did.view did.line did.line.step w did.found (slice_get_within did.view.script did.view.next did.line did.at))
+
 pub turn_nearer : (actor : Actor) (w v : WorldView) → turn actor w ≡ Some v → turns_left v < turns_left w
+turn_nearer (Session session) w v is = session_nearer session w v is
 turn_nearer Tool w v is = tool_nearer w.phase w v refl is
 turn_nearer (Worker replica worker) w v is =
     elim (worker == 1) as (λ b. cond b (worker_turn replica w) None ≡ Some v → turns_left v < turns_left w) [
@@ -249,14 +405,63 @@ workers_from-more : (number : ℕ) (nodes : List NodeView) (i : ℕ) → i < len
     → workers_from number (take (i + 1) nodes) ≡ workers_from number (take i nodes) ++ Worker (i + number) 1 ∷ []
 workers_from-more number nodes i within = ap (λ n. workers_from number (take n nodes)) (add-one i) ∙ workers_from-suc number nodes i within
 
--- the workers of the first replicas took their turns, and one more does
+sessions_from-suc : (number : ℕ) (views : List SessionView) (i : ℕ) → i < length views
+    → sessions_from number (take (suc i) views) ≡ sessions_from number (take i views) ++ Session (i + number) ∷ []
+sessions_from-suc number [] i within = absurd (omega arith)
+sessions_from-suc number (view ∷ views) zero within = ap (λ n. Session n ∷ []) (omega arith)
+sessions_from-suc number (view ∷ views) (suc i) within =
+    ap (λ (rest : List Actor). Session number ∷ rest) (sessions_from-suc (number + 1) views i (omega arith)
+    ∙ ap (λ n. sessions_from (number + 1) (take i views) ++ Session n ∷ []) (omega arith))
+
+sessions_from-more : (number : ℕ) (views : List SessionView) (i : ℕ) → i < length views
+    → sessions_from number (take (i + 1) views) ≡ sessions_from number (take i views) ++ Session (i + number) ∷ []
+sessions_from-more number views i within = ap (λ n. sessions_from number (take n views)) (add-one i) ∙ sessions_from-suc number views i within
+
+-- the first sessions took their turns, and one more does
+pub took_session : (old now new : WorldView) (i : ℕ) (moved step : Bool) → i < length old.sessions
+    → TookTurns old now (sessions_from 1 (take i old.sessions)) moved
+    → Takes (turn (Session (i + 1)) now) step now new
+    → TookTurns old new (sessions_from 1 (take (i + 1) old.sessions)) (moved || step)
+took_session old now new i moved step within so_far takes =
+    subst (λ (all : List Actor). TookTurns old new all (moved || step)) (sym (sessions_from-more 1 old.sessions i within))
+    (took_more old now new (sessions_from 1 (take i old.sessions)) (Session (i + 1)) moved step so_far takes)
+
+pub took_no_session : (w : WorldView) → TookTurns w w (sessions_from 1 (take 0 w.sessions)) false
+took_no_session w = took_none w
+
+pub took_sessions : (old now : WorldView) (i : ℕ) (moved : Bool) → i ≡ length old.sessions
+    → TookTurns old now (sessions_from 1 (take i old.sessions)) moved
+    → TookTurns old now (sessions_from 1 old.sessions) moved
+took_sessions old now i moved all so_far =
+    subst (λ (views : List SessionView). TookTurns old now (sessions_from 1 views) moved) (ap (λ n. take n old.sessions) all ∙ take-length old.sessions) so_far
+
+-- then the tool
+pub took_tool : (old now new : WorldView) (moved step : Bool)
+    → TookTurns old now (sessions_from 1 old.sessions) moved
+    → Takes (turn Tool now) step now new
+    → TookTurns old new (sessions_from 1 old.sessions ++ Tool ∷ []) (moved || step)
+took_tool old now new moved step so_far takes = took_more old now new (sessions_from 1 old.sessions) Tool moved step so_far takes
+
+-- then the workers of the first replicas, and one more
 pub took_worker : (old now new : WorldView) (i : ℕ) (moved step : Bool) → i < length old.replicas
-    → TookTurns old now (Tool ∷ workers_from 1 (take i old.replicas)) moved
+    → TookTurns old now (sessions_from 1 old.sessions ++ Tool ∷ workers_from 1 (take i old.replicas)) moved
     → Takes (turn (Worker (i + 1) 1) now) step now new
-    → TookTurns old new (Tool ∷ workers_from 1 (take (i + 1) old.replicas)) (moved || step)
+    → TookTurns old new (sessions_from 1 old.sessions ++ Tool ∷ workers_from 1 (take (i + 1) old.replicas)) (moved || step)
 took_worker old now new i moved step within so_far takes =
-    subst (λ (rest : List Actor). TookTurns old new (Tool ∷ rest) (moved || step)) (sym (workers_from-more 1 old.replicas i within))
-    (took_more old now new (Tool ∷ workers_from 1 (take i old.replicas)) (Worker (i + 1) 1) moved step so_far takes)
+    let sessions : List Actor = sessions_from 1 old.sessions in
+    let all : (sessions ++ Tool ∷ workers_from 1 (take i old.replicas)) ++ Worker (i + 1) 1 ∷ [] ≡ sessions ++ Tool ∷ workers_from 1 (take (i + 1) old.replicas) =
+    append_assoc sessions (Tool ∷ workers_from 1 (take i old.replicas)) (Worker (i + 1) 1 ∷ [])
+    ∙ ap (λ (rest : List Actor). sessions ++ Tool ∷ rest) (sym (workers_from-more 1 old.replicas i within)) in
+    subst (λ (actors : List Actor). TookTurns old new actors (moved || step)) all
+    (took_more old now new (sessions ++ Tool ∷ workers_from 1 (take i old.replicas)) (Worker (i + 1) 1) moved step so_far takes)
+
+-- a whole round
+pub took_round : (old now : WorldView) (i : ℕ) (moved : Bool) → i ≡ length old.replicas
+    → TookTurns old now (sessions_from 1 old.sessions ++ Tool ∷ workers_from 1 (take i old.replicas)) moved
+    → TookTurns old now (order old) moved
+took_round old now i moved all so_far =
+    subst (λ (nodes : List NodeView). TookTurns old now (sessions_from 1 old.sessions ++ Tool ∷ workers_from 1 nodes) moved)
+    (ap (λ n. take n old.replicas) all ∙ take-length old.replicas) so_far
 
 -- a number of rounds, each of which moved somebody
 pub record RunsSoFar (first now : WorldView) : Type 0 where

@@ -1,16 +1,24 @@
 -- What the report of a finished run says: its log and histories, and what each printed verdict means.
-use Rattle.std.specs.Prelude.{ℕ, ◌≡◌, ◌≢◌, ◌<◌, ◌≤◌, ◌-◌, ◌↔◌, List, Some, length, map}
-use Rattle.std.specs.List.{AllByRecursion, Contains, slice_get}
+use Rattle.std.specs.Prelude.{Bool, List, Some, [], cond, false, filter, length, map, take, true, ℕ, ◌+◌, ◌-◌, ◌<◌, ◌==◌, ◌↔◌, ◌∷◌, ◌≡◌, ◌≢◌, ◌≤◌}
+use Rattle.std.specs.List.{AllByRecursion, Contains, list_any, slice_get}
 use Rattle.row_types.specs.declared.values.Value.{Value}
 use Rattle.row_types.specs.declared.digests.DigestKind.{DigestKind}
+use Rattle.ptc_statement.specs.declared.statements.Statement.{Statement}
 use Rattle.ptc_statement.specs.declared.statements.Statement.TheVariants.{Check}
+use Rattle.ptc_statement.specs.declared.scripts.Script.{Script}
+use Rattle.ptc_statement.specs.declared.scripts.ScriptLine.{ScriptLine}
+use Rattle.ptc_statement.specs.declared.scripts.ScriptStep.{ScriptStep}
+use Rattle.ptc_statement.specs.declared.scripts.ScriptStep.TheVariants.{Run}
+use Rattle.ptc_statement.specs.Fits.{IsClients}
+use Rattle.history.specs.declared.entries.Origin.{Origin}
+use Rattle.history.specs.declared.entries.Origin.TheVariants.{Session, Checksum, Applied}
 use Rattle.history.specs.declared.entries.Entry.{Entry}
 use Rattle.history.specs.declared.checks.Verdict.TheVariants.{Same, Differ, Pending}
 use Rattle.history.specs.Digest.{digest_of}
 use Rattle.history.specs.Replay.{chunk_rows, source_at, replica_at, Follows}
 use Rattle.history.specs.Headline.{MastersAreTrue, HasStatementAt, DigestsDistinguish}
 use Rattle.cluster_core.specs.Node.{NodeView}
-use Rattle.cluster_core.specs.World.{WorldView, whole_table}
+use Rattle.cluster_core.specs.World.{SessionView, WorldView, is_duplicate, whole_table}
 use Rattle.cluster_core.specs.Report.{verdicts_of}
 use Rattle.cluster_core.specs.declared.report_verdicts.VerdictLine.{VerdictLine}
 use Rattle.cluster_core.specs.declared.actors.ToolPhase.TheVariants.{Finished}
@@ -67,6 +75,80 @@ pub record AppliedAll (log : List Entry) (node : NodeView) : Type 0 where
   pub follows : Follows log node.history
   pub all : length node.history ≡ length log
 
+-- whether a line's number is among these
+abbrev pub is_among : ℕ → List ℕ → Bool
+is_among line refused = list_any (λ other. other == line) refused
+
+abbrev pub step_call : ScriptStep → Bool → List Statement → List Statement
+step_call (Run statement) refused calls = cond refused calls (statement ∷ calls)
+
+-- the statements of a script's lines, without those of the lines that were refused as duplicates
+abbrev pub calls_of : List ℕ → List ScriptLine → List Statement
+calls_of refused [] = []
+calls_of refused (line ∷ lines) = step_call line.step (is_among line.line refused) (calls_of refused lines)
+
+abbrev pub is_by : ℕ → Origin → Bool
+is_by session (Session other) = other == session
+is_by session Checksum = false
+is_by session (Applied number) = false
+
+-- the statements of each entry that a session logged, in order
+abbrev pub logged_by : ℕ → List Entry → List (List Statement)
+logged_by session log = map (λ (entry : Entry). entry.statements) (filter (λ (entry : Entry). is_by session entry.origin) log)
+
+-- own calls: a session is through its script, and its entries of the log are, in order and each
+-- once, the statements of its script without those that are printed as duplicates
+pub record OwnCalls (log : List Entry) (session : ℕ) (view : SessionView) : Type 0 where
+  pub through : view.next ≡ length view.script
+  pub calls : logged_by session log ≡ map (λ (statement : Statement). statement ∷ []) (calls_of view.refused view.script)
+
+abbrev pub EachOwnCalls : List Entry → ℕ → List SessionView → Type 0
+EachOwnCalls log number [] = Unit {0}
+EachOwnCalls log number (view ∷ views) = OwnCalls log number view × EachOwnCalls log (number + 1) views
+
+-- whether a statement is an INSERT whose key was there after this many entries of a node's log
+abbrev pub is_duplicate_at : NodeView → ℕ → Statement → Bool
+is_duplicate_at source position statement = is_duplicate (record source { history = take position source.history }) statement
+
+-- the number is that of a line of the script that was refused truly: at some point of the log its
+-- statement was a duplicate
+pub record IsTrueDuplicate (source : NodeView) (script : List ScriptLine) (number : ℕ) : Type 0 where
+  pub line : ScriptLine
+  pub among : Contains script line
+  pub numbered : line.line ≡ number
+  pub statement : Statement
+  pub step : line.step ≡ Run statement
+  pub position : ℕ
+  pub in_log : position ≤ length source.history
+  pub duplicate : is_duplicate_at source position statement ≡ true
+
+-- the numbers rise, so each stands once
+abbrev pub NumbersRise : List ℕ → Type 0
+NumbersRise [] = Unit {0}
+NumbersRise (number ∷ numbers) = AllByRecursion (λ later. number < later) numbers × NumbersRise numbers
+
+-- a session's refused lines: by rising number, and each refused truly
+pub record RefusedTruly (source : NodeView) (view : SessionView) : Type 0 where
+  pub rise : NumbersRise view.refused
+  pub duplicates : AllByRecursion (IsTrueDuplicate source view.script) view.refused
+
+-- no statement that a session logged was a duplicate where it stands: after the entries before it
+abbrev pub LoggedTruly : NodeView → Type 0
+LoggedTruly source =
+    (before session : ℕ) (entry : Entry)
+    → slice_get source.history before ≡ Some entry
+    → entry.origin ≡ Session session
+    → AllByRecursion (λ (statement : Statement). is_duplicate_at source before statement ≡ false) entry.statements
+
+-- a statement of the checksum tool
+abbrev pub IsTools : Statement → Type 0
+IsTools statement = IsClients statement → ⊥
+
+abbrev pub IsOwnedBy : ℕ → Origin → List Statement → Type 0
+IsOwnedBy sessions (Session session) statements = (1 ≤ session) × (session ≤ sessions)
+IsOwnedBy sessions Checksum statements = AllByRecursion IsTools statements
+IsOwnedBy sessions (Applied number) statements = ⊥
+
 -- what holds of the world at the end of a run
 pub record RunHolds (workload : Workload) (w : WorldView) : Type 0 where
   -- it began from the workload
@@ -76,6 +158,14 @@ pub record RunHolds (workload : Workload) (w : WorldView) : Type 0 where
   pub replica_schemas : AllByRecursion (λ (node : NodeView). node.schemas ≡ workload.schemas.tables) w.replicas
   -- each entry of the log has one statement, and each published checksum is the source's own
   pub masters : MastersAreTrue w.source.schemas w.source.start w.source.history
+  -- the log's entries of each session are its own calls, and every other entry is the tool's
+  pub scripts : map (λ (view : SessionView). view.script) w.sessions ≡ map (λ (script : Script). script.lines) workload.sessions
+  pub own_calls : EachOwnCalls w.source.history 1 w.sessions
+  -- each line that was refused was a duplicate at some point of the log, and no statement that a
+  -- session logged was one where it stands
+  pub refused_lines : AllByRecursion (RefusedTruly w.source) w.sessions
+  pub logged_truly : LoggedTruly w.source
+  pub owners : AllByRecursion (λ (entry : Entry). IsOwnedBy (length w.sessions) entry.origin entry.statements) w.source.history
   -- each replica applied the whole log
   pub histories : AllByRecursion (AppliedAll w.source.history) w.replicas
   -- the tool is through all tables

@@ -1,9 +1,12 @@
 -- A node: its schemas, what it began with, and its history.
-use Rattle.std.specs.Prelude.{List, [], ◌∷◌, ◌++◌}
+use Rattle.std.specs.Prelude.{ℕ, List, [], ◌∷◌, ◌++◌, Option, option_and_then}
+use Rattle.std.specs.List.{slice_get}
 use Rattle.row_types.specs.declared.values.Value.{Value}
 use Rattle.row_types.specs.declared.table_schema.Schema.{Schema}
 use Rattle.history.specs.declared.entries.Entry.{Entry}
-use Rattle.history.specs.Replay.{Replayed, fold}
+use Rattle.row_types.specs.Fit.{key_of}
+use Rattle.ptc_statement.specs.Effect.{row_at}
+use Rattle.history.specs.Replay.{Replayed, fold, table_rows}
 
 pub record NodeView : Type 0 where
   pub schemas : List Schema
@@ -17,3 +20,9 @@ replayed_of node = fold node.schemas node.start node.history
 -- the node with one more entry in its history
 abbrev pub logged : NodeView → Entry → NodeView
 logged node entry = record node { history = node.history ++ entry ∷ [] }
+
+-- the row that a node has at a key of a table
+abbrev pub row_on : NodeView → ℕ → List Value → Option (List Value)
+row_on node table row =
+    option_and_then (λ (schema : Schema). row_at schema (key_of schema row) (table_rows (replayed_of node).tables table))
+    (slice_get node.schemas table)

@@ -11,7 +11,7 @@ use Rattle.row_types.specs.declared.digests.Digest.{Digest}
 use Rattle.row_types.specs.Order.{key_cmp}
 use Rattle.ptc_statement.specs.declared.statements.Statement.{Statement}
 use Rattle.history.specs.declared.entries.Origin.{Origin}
-use Rattle.history.specs.declared.entries.Origin.TheVariants.{Checksum, Applied}
+use Rattle.history.specs.declared.entries.Origin.TheVariants.{Session, Checksum, Applied}
 use Rattle.history.specs.declared.entries.Entry.{Entry}
 use Rattle.history.specs.declared.checks.CheckRow.{CheckRow}
 use Rattle.history.specs.declared.checks.CheckEntry.{CheckEntry}
@@ -19,7 +19,7 @@ use Rattle.history.specs.declared.checks.Verdict.{Verdict}
 use Rattle.history.specs.declared.checks.Verdict.TheVariants.{Same, Differ, Pending}
 use Rattle.history.specs.Checks.{check_at, with_absent, verdict_of_row}
 use Rattle.cluster_core.specs.Node.{NodeView, replayed_of}
-use Rattle.cluster_core.specs.World.{WorldView}
+use Rattle.cluster_core.specs.World.{SessionView, WorldView}
 use Rattle.cluster_core.specs.declared.report_verdicts.VerdictLine.{VerdictLine}
 use Rattle.cluster_core.specs.Texts.{name_of, table_line, tuple_text, span_text, statement_text}
 
@@ -44,6 +44,7 @@ tables_lines schemas word node table (rows ∷ tables) =
     rows_lines word node (name_of schemas table) rows ++ tables_lines schemas word node (table + 1) tables
 
 unfoldable pub origin_text : Origin → List ℕ
+origin_text (Session session) = codes "s" ++ decimal session
 origin_text Checksum = codes "c"
 origin_text (Applied entry) = codes "applied " ++ decimal entry
 
@@ -206,6 +207,15 @@ status_line status = codes "STATUS " ++ decimal status ++ codes "\n"
 abbrev pub status_text : WorldView → List ℕ
 status_text w = status_line (status_of w)
 
+-- a line of a script that was refused as a duplicate
+unfoldable pub duplicate_line : ℕ → ℕ → List ℕ
+duplicate_line session line = codes "DUPLICATE s" ++ decimal session ++ codes " line " ++ decimal line ++ codes "\n"
+
+-- the duplicates of the sessions, the first of this number
+abbrev pub duplicates_from : ℕ → List SessionView → List ℕ
+duplicates_from number [] = []
+duplicates_from number (view ∷ views) = flat_map (duplicate_line number) view.refused ++ duplicates_from (number + 1) views
+
 -- the whole report
 unfoldable pub report_of : WorldView → List ℕ
-report_of w = head_text w.source.schemas ++ starts_text w ++ histories_text w ++ verdicts_text w ++ finals_text w ++ status_text w
+report_of w = head_text w.source.schemas ++ starts_text w ++ histories_text w ++ verdicts_text w ++ finals_text w ++ duplicates_from 1 w.sessions ++ status_text w

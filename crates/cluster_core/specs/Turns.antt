@@ -3,14 +3,15 @@ use Rattle.std.specs.Prelude.{ℕ, ◌≡◌, ◌+◌, ◌-◌, ◌*◌, ◌<◌
 use Rattle.std.specs.List.{AllByRecursion}
 use Rattle.history.specs.Replay.{applied_of}
 use Rattle.cluster_core.specs.Node.{NodeView}
-use Rattle.cluster_core.specs.World.{WorldView, turn, after_turns}
+use Rattle.cluster_core.specs.World.{SessionView, WorldView, turn, after_turns}
 use Rattle.cluster_core.specs.declared.actors.Actor.{Actor}
-use Rattle.cluster_core.specs.declared.actors.Actor.TheVariants.{Tool, Worker}
+use Rattle.cluster_core.specs.declared.actors.Actor.TheVariants.{Session, Tool, Worker}
 use Rattle.cluster_core.specs.declared.actors.ToolPhase.{ToolPhase}
 use Rattle.cluster_core.specs.declared.actors.ToolPhase.TheVariants.{Clear, Check, Master, Finished}
 
--- replicas are numbered from 1
+-- sessions and replicas are numbered from 1
 abbrev pub IsNumbered : Actor → Type 0
+IsNumbered (Session session) = 1 ≤ session
 IsNumbered Tool = Unit {0}
 IsNumbered (Worker replica worker) = 1 ≤ replica
 
@@ -31,9 +32,16 @@ abbrev pub lags : ℕ → List NodeView → ℕ
 lags end [] = 0
 lags end (node ∷ nodes) = end - applied_of node.history + lags end nodes
 
+-- how many lines the sessions have still to do
+abbrev pub lines_left : List SessionView → ℕ
+lines_left [] = 0
+lines_left (view ∷ views) = length view.script - view.next + lines_left views
+
 -- no more turns than these can move
 abbrev pub turns_left : WorldView → ℕ
-turns_left w = (length w.replicas + 1) * entries_left (length w.source.schemas) w.phase + lags (length w.source.history) w.replicas
+turns_left w =
+    (length w.replicas + 1) * (entries_left (length w.source.schemas) w.phase + lines_left w.sessions)
+    + lags (length w.source.history) w.replicas
 
 -- these actors took a turn each; where none moved, none could, and else fewer turns are left
 pub record TookTurns (old now : WorldView) (actors : List Actor) (moved : Bool) : Type 0 where

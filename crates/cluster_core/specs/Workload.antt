@@ -1,10 +1,29 @@
 -- The rules that a workload keeps.
-use Rattle.std.specs.Prelude.{◌≡◌, ◌≤◌, length}
+use Rattle.std.specs.Prelude.{◌≡◌, ◌<◌, ◌≤◌, List, [], ◌∷◌, length}
 use Rattle.std.specs.List.{AllByRecursion}
+use Rattle.row_types.specs.declared.table_schema.Schema.{Schema}
+use Rattle.ptc_statement.specs.declared.scripts.Script.{Script}
+use Rattle.ptc_statement.specs.declared.scripts.ScriptLine.{ScriptLine}
+use Rattle.ptc_statement.specs.declared.scripts.ScriptStep.{ScriptStep}
+use Rattle.ptc_statement.specs.declared.scripts.ScriptStep.TheVariants.{Run}
+use Rattle.ptc_statement.specs.Fits.{IsClients, FitsSchemas}
 use Rattle.row_types.specs.Fit.{IsSchema, AreTables}
 use Rattle.cluster_core.specs.declared.workload.Workload.{Workload}
 
--- 1 to 16 tables and 1 to 8 replicas, and on each node a table for each schema
+-- a client's statement that fits
+abbrev pub StepFits : List Schema → ScriptStep → Type 0
+StepFits schemas (Run statement) = IsClients statement × FitsSchemas schemas statement
+
+-- the line numbers rise
+abbrev pub LinesRise : List ScriptLine → Type 0
+LinesRise [] = Unit {0}
+LinesRise (line ∷ lines) = AllByRecursion (λ (later : ScriptLine). line.line < later.line) lines × LinesRise lines
+
+pub record ScriptFits (schemas : List Schema) (script : Script) : Type 0 where
+  pub steps : AllByRecursion (λ (line : ScriptLine). StepFits schemas line.step) script.lines
+  pub numbers : LinesRise script.lines
+
+-- 1 to 16 tables, 1 to 8 replicas and up to 64 sessions; on each node a table for each schema
 pub record IsWorkload (w : Workload) : Type 0 where
   pub some_table : 1 ≤ length w.schemas.tables
   pub most_tables : length w.schemas.tables ≤ 16
@@ -13,4 +32,6 @@ pub record IsWorkload (w : Workload) : Type 0 where
   pub most_replicas : w.replicas ≤ 8
   pub source : AreTables w.schemas.tables w.source
   pub copies : AllByRecursion (AreTables w.schemas.tables) w.copies
+  pub most_sessions : length w.sessions ≤ 64
+  pub scripts : AllByRecursion (ScriptFits w.schemas.tables) w.sessions
   pub each_copied : length w.copies ≡ w.replicas

@@ -3,10 +3,11 @@ ghost use Rattle.std.specs.Prelude.{◌≡◌, ◌↔◌, IsTrue, IfOk};
 use row_types::R;
 use std::alloc::Global;
 
-/// Who takes turns: the checksum tool, and the workers of the replicas. Replicas and workers are
-/// numbered from 1.
+/// Who takes turns: the sessions, the checksum tool, and the workers of the replicas. All are numbered
+/// from 1.
 #[derive(Clone, Copy, Debug, PartialEq, Eq)]
 pub enum Actor {
+    Session(u32),
     Tool,
     Worker { replica: u32, worker: u32 },
 }

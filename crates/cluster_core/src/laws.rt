@@ -4,9 +4,10 @@ ghost use Rattle.cluster_core.specs.Workload.{IsWorkload};
 ghost use Rattle.cluster_core.specs.World.{WorldView, begun, EndsIn};
 ghost use Rattle.cluster_core.specs.declared.workload.Workload.{Workload};
 
-/// Whatever workload a run begins from, at its end each replica applied the whole log, each
-/// published checksum is the source's own, and each verdict compares the source's and the replica's
-/// rows of its chunk at one position of the log; no table of any replica is passed over.
+/// Whatever workload a run begins from, at its end each replica applied the whole log, each session's
+/// entries of the log are its script's statements without its duplicates, each published checksum is
+/// the source's own, and each verdict compares the source's and the replica's rows of its chunk at
+/// one position of the log; no table of any replica is passed over.
 pub fn each_run_holds()
     ensures { (workload : Workload) (last : WorldView) → IsWorkload workload → EndsIn (begun workload) last → RunHolds workload last }
 {}

@@ -1,14 +1,17 @@
-ghost use Rattle.std.specs.Prelude.{◌≡◌, ◌<◌, ◌^◌, ◌↔◌, ◌++◌, [], ◌∷◌, IfOk, OnOk, OnErr};
+ghost use Rattle.std.specs.Prelude.{◌≡◌, ◌<◌, ◌≤◌, ◌^◌, ◌↔◌, ◌++◌, [], ◌∷◌, length, is_some, unwrap_or, IfOk, OnOk, OnErr};
 ghost use Rattle.std.specs.List.{AllByRecursion};
 ghost use Rattle.row_types.specs.Fit.{IsSchema, AreTables};
+ghost use Rattle.ptc_statement.specs.Effect.{table_of};
+ghost use Rattle.ptc_statement.specs.Fits.{FitsSchemas};
+ghost use Rattle.ptc_statement.specs.Planned.{replaced};
 ghost use Rattle.history.specs.Digest.{digest_of};
-ghost use Rattle.history.specs.Replay.{applied_of, checks_after, chunk_rows, position_of, after_statements};
-ghost use Rattle.cluster_core.specs.Node.{replayed_of, logged};
-ghost use Rattle.cluster_core.specs.Checkable.{AreCheckable};
+ghost use Rattle.history.specs.Replay.{applied_of, checks_after, chunk_rows, position_of, table_rows, tables_after};
+ghost use Rattle.cluster_core.specs.Node.{replayed_of, logged, row_on};
+ghost use Rattle.cluster_core.specs.Checkable.{AreCheckable, with_change};
 
 use history::{CheckRow, Checks, Entries, Entry, Origin, digest_rows};
-use ptc_statement::Statement;
-use row_types::{Digest, DigestKind, R, Schemas, Span, Tables};
+use ptc_statement::{Change, Statement, Statements, apply_change, has_key_of, planned};
+use row_types::{Digest, DigestKind, R, Row, Rows, Schemas, Span, Tables};
 use std::alloc::Global;
 use std::marker::Model;
 
@@ -57,27 +60,41 @@ impl Node {
         })
     }
 
-    /// Puts an entry at the end of the history, with what its statements do; a refusal leaves the
-    /// node as it was.
-    pub fn log(&mut self, entry: Entry) -> R<()>
-        ensures ok { OnOk result (self.new ≡ logged self.old entry) }
+    /// Puts a statement at the end of the history, as an entry of its own, with what it does; a
+    /// refusal leaves the node as it was.
+    pub fn log(&mut self, origin: Origin, statement: Statement) -> R<()>
+        requires { FitsSchemas self.old.schemas statement }
+        ensures ok { OnOk result (self.new ≡ logged self.old (record { origin = origin; statements = statement ∷ [] })) }
         ensures err { OnErr result (self.new ≡ self.old) }
     {
         let number = self.history.len() as u64 + 1;
-        let position = position_from(number, entry.origin);
-        let applied = position_from(self.applied, entry.origin);
-        let checks = checks_after_entry(
+        let position = position_from(number, origin);
+        let applied = position_from(self.applied, origin);
+        let table = statement.table();
+        let checks = checks_of(
             self.alloc,
             &self.schemas,
             &self.live,
             &self.checks,
             position,
-            &entry,
+            &statement,
         )?;
-        self.history.push(entry)?;
-        self.checks = checks;
+        let change = change_of(self.alloc, &self.schemas, &self.live, &statement)?;
+        let entry = entry_of(self.alloc, origin, statement)?;
+        enter(&mut self.history, entry, &mut self.live, table, change)?;
+        put_checks(&mut self.checks, checks);
         self.applied = applied;
         Ok(())
+    }
+
+    /// Whether the node has a row at the key of this one.
+    pub fn has_row(&self, table: u32, row: &Row) -> bool
+        ensures { result ≡ is_some (row_on self.now table row.now) }
+    {
+        match self.schemas.tables.get(table) {
+            None => false,
+            Some(schema) => has_key_of(schema, self.live.rows_of(table), row),
+        }
     }
 
     pub fn schemas(&self) -> &Schemas
@@ -126,62 +143,51 @@ fn position_from(number: u64, origin: Origin) -> u64
     ensures { result ≡ position_of number origin }
 {
     match origin {
-        Origin::Checksum => number,
+        Origin::Session(_) | Origin::Checksum => number,
         Origin::Applied(entry) => entry,
     }
 }
 
-/// The check rows after an entry, made beside the present ones, which stay as they are.
-#[tactic(auto, using(crate::proofs::NodeLemmas::after_one))]
-fn checks_after_entry(
+/// The entry of one statement.
+fn entry_of(alloc: Global, origin: Origin, statement: Statement) -> R<Entry>
+    ensures { IfOk result (λ entry. entry ≡ record { origin = origin; statements = statement ∷ [] }) }
+{
+    let mut statements = Statements::new(alloc);
+    statements.push(statement)?;
+    Ok(Entry { origin, statements })
+}
+
+/// The check rows after a statement at this position, made beside the present ones; none where these
+/// stay.
+fn checks_of(
     alloc: Global,
     schemas: &Schemas,
     live: &Tables,
     checks: &Checks,
     position: u64,
-    entry: &Entry,
-) -> R<Checks>
-    requires { AreCheckable schemas.now.tables live.now }
-    ensures { IfOk result (λ after. after_statements schemas.now.tables position entry.now.statements (record { tables = live.now; checks = checks.now }) ≡ record { tables = live.now; checks = after }) }
-{
-    let mut after = checks.copy(alloc)?;
-    let mut rest = entry.statements.as_slice();
-    while let Some((statement, more)) = rest.split_first() {
-        perform(alloc, schemas, live, &mut after, position, statement)?;
-        rest = more;
-    }
-    Ok(after)
-}
-
-/// Does to the check rows what a statement at this position does.
-fn perform(
-    alloc: Global,
-    schemas: &Schemas,
-    live: &Tables,
-    checks: &mut Checks,
-    position: u64,
     statement: &Statement,
-) -> R<()>
+) -> R<Option<Checks>>
     requires { AreCheckable schemas.now.tables live.now }
-    ensures ok { OnOk result (checks.new ≡ checks_after schemas.now.tables position statement.now (record { tables = live.now; checks = checks.old })) }
-    ensures err { OnErr result (checks.new ≡ checks.old) }
+    ensures { IfOk result (λ after. unwrap_or after checks.now ≡ checks_after schemas.now.tables position statement.now (record { tables = live.now; checks = checks.now })) }
 {
     match statement {
+        Statement::Insert { .. } | Statement::Delete { .. } | Statement::Update { .. } => Ok(None),
         Statement::Check {
             table,
             chunk,
             span,
             kind,
         } => {
-            let this = chunk_digest(alloc, schemas, live, *table, span, *kind)?;
             let row = CheckRow {
                 span: span.copy(alloc)?,
                 kind: *kind,
-                this,
+                this: chunk_digest(alloc, schemas, live, *table, span, *kind)?,
                 master: None,
                 position,
             };
-            checks.set(*table, *chunk, row)
+            let mut after = checks.copy(alloc)?;
+            after.set(*table, *chunk, row)?;
+            Ok(Some(after))
         }
         Statement::SetMaster {
             table,
@@ -189,14 +195,81 @@ fn perform(
             master,
             ..
         } => {
-            checks.set_master(*table, *chunk, *master);
-            Ok(())
+            let mut after = checks.copy(alloc)?;
+            after.set_master(*table, *chunk, *master);
+            Ok(Some(after))
         }
         Statement::ClearChecks { table } => {
-            checks.clear(*table);
-            Ok(())
+            let mut after = checks.copy(alloc)?;
+            after.clear(*table);
+            Ok(Some(after))
         }
     }
+}
+
+/// Puts new check rows, if there are any, in the place of the present ones.
+fn put_checks(checks: &mut Checks, new: Option<Checks>)
+    ensures { checks.new ≡ unwrap_or new checks.old }
+{
+    if let Some(new) = new {
+        *checks = new;
+    }
+}
+
+/// The change that a statement makes to the rows of its table, none where there is no such table.
+fn change_of(alloc: Global, schemas: &Schemas, live: &Tables, statement: &Statement) -> R<Change>
+    requires schemas { AllByRecursion IsSchema schemas.now.tables }
+    requires tables { AreTables schemas.now.tables live.now }
+    ensures ordered { IfOk result (λ change. change.from ≤ change.to) }
+    ensures within { IfOk result (λ change. change.to ≤ length (table_rows live.now (table_of statement.now))) }
+    ensures tables { IfOk result (λ change. tables_after schemas.now.tables statement.now live.now ≡ with_change live.now (table_of statement.now) change.from change.to change.rows) }
+{
+    let table = statement.table();
+    match schemas.tables.get(table) {
+        None => Ok(Change {
+            from: 0,
+            to: 0,
+            rows: Rows::new(alloc),
+        }),
+        Some(schema) => planned(alloc, statement, schema, live.rows_of(table)),
+    }
+}
+
+/// Puts an entry at the end of the history and does its change to a table; a refusal leaves both.
+fn enter(
+    history: &mut Entries,
+    entry: Entry,
+    live: &mut Tables,
+    table: u32,
+    change: Change,
+) -> R<()>
+    requires ordered { change.from ≤ change.to }
+    requires within { change.to ≤ length (table_rows live.old table) }
+    ensures history { OnOk result (history.new ≡ history.old ++ entry ∷ []) }
+    ensures live { OnOk result (live.new ≡ with_change live.old table change.from change.to change.rows) }
+    ensures history_left { OnErr result (history.new ≡ history.old) }
+    ensures live_left { OnErr result (live.new ≡ live.old) }
+{
+    let place = table as usize;
+    if place >= live.items.len() {
+        return history.push(entry);
+    }
+    enter_change(history, entry, &mut live.items[place], change)
+}
+
+/// Puts an entry at the end of the history and does its change to rows; a refusal leaves both.
+fn enter_change(history: &mut Entries, entry: Entry, rows: &mut Rows, change: Change) -> R<()>
+    requires ordered { change.from ≤ change.to }
+    requires within { change.to ≤ length rows.old }
+    ensures history { OnOk result (history.new ≡ history.old ++ entry ∷ []) }
+    ensures rows { OnOk result (rows.new ≡ replaced change.from change.to change.rows rows.old) }
+    ensures history_left { OnErr result (history.new ≡ history.old) }
+    ensures rows_left { OnErr result (rows.new ≡ rows.old) }
+{
+    rows.items.reserve(change.rows.len())?;
+    history.push(entry)?;
+    apply_change(&mut rows.items, change);
+    Ok(())
 }
 
 /// The checksum of a table's rows in a span; a table that isn't there has no rows.

@@ -6,7 +6,8 @@ ghost use Rattle.cluster_core.specs.Report.{replica_text, row_place_text, row_li
 ghost use Rattle.cluster_core.specs.Texts.{table_line};
 ghost use Rattle.cluster_core.specs.Report.{rows_equal as rows_equal_in};
 
-use crate::texts::{name_of, push_bytes, push_number, push_statement, push_table, push_tuple};
+use crate::statement_texts::push_statement;
+use crate::texts::{name_of, push_bytes, push_number, push_table, push_tuple};
 use history::{Entries, Entry, Origin};
 use ptc_statement::{Statement, Statements};
 use row_types::{R, Row, Rows, SchemaList, Tables};
@@ -127,6 +128,10 @@ fn push_origin(alloc: Global, out: &mut Vec<u8>, origin: Origin) -> R<()>
     ensures { OnOk result (out.new.items ≡ out.old.items ++ origin_text origin) }
 {
     match origin {
+        Origin::Session(session) => {
+            push_bytes(out, b"s")?;
+            push_number(alloc, out, session as u64)
+        }
         Origin::Checksum => push_bytes(out, b"c"),
         Origin::Applied(entry) => {
             push_bytes(out, b"applied ")?;

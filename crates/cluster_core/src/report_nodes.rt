@@ -1,13 +1,15 @@
-//! The report's parts that have lines for each replica. After a refusal of memory a text is
+//! The report's parts that have lines for each replica or session. After a refusal of memory a text is
 //! incomplete.
 ghost use Rattle.std.specs.Prelude.{◌≡◌, ◌<◌, ◌++◌, ◌^◌, length, IfOk, OnOk};
 ghost use Rattle.std.specs.List.{flat_map, list_any};
 ghost use Rattle.cluster_core.specs.Node.{NodeView, replayed_of};
-ghost use Rattle.cluster_core.specs.Report.{each_replica, start_lines, final_lines, equals_of, history_lines, verdicts_from, verdict_line_text, differs};
+ghost use Rattle.cluster_core.specs.Report.{each_replica, start_lines, final_lines, equals_of, history_lines, verdicts_from, verdict_line_text, differs, duplicates_from};
 
 use crate::nodes::Node;
 use crate::report::{push_equal, push_history, push_replica_tables};
+use crate::report_duplicates::push_duplicates;
 use crate::report_verdicts::push_verdicts;
+use crate::sessions::Session;
 use history::Checks;
 use row_types::{R, SchemaList, Tables};
 use std::alloc::Global;
@@ -103,6 +105,20 @@ pub(crate) fn push_each_equal(
         push_equal(alloc, out, schemas, replica, source, node.live())?;
         rest = more;
         replica += 1;
+    }
+    Ok(())
+}
+
+/// The lines of each session that were refused as duplicates.
+pub(crate) fn push_each_duplicate(alloc: Global, out: &mut Vec<u8>, sessions: &[Session]) -> R<()>
+    requires { length sessions.now < 2 ^ 31 }
+    ensures { OnOk result (out.new.items ≡ out.old.items ++ duplicates_from 1 sessions.now) }
+{
+    let (mut rest, mut session) = (sessions, 1u32);
+    while let Some((one, more)) = rest.split_first() {
+        push_duplicates(alloc, out, session, one.refused())?;
+        rest = more;
+        session += 1;
     }
     Ok(())
 }

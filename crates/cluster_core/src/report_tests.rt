@@ -1,8 +1,9 @@
 use crate::report::{push_equal, push_head, push_log};
+use crate::report_duplicates::push_duplicates;
 use crate::report_verdicts::push_verdicts;
-use crate::texts::push_statement;
+use crate::statement_texts::push_statement;
 use history::{CheckEntry, CheckRow, Checks, Entries, Entry, Origin};
-use ptc_statement::{Statement, Statements};
+use ptc_statement::{Assignment, Cond, Expr, Op, Sets, Statement, Statements};
 use row_types::{
     Bytes, Column, ColumnKind, Columns, Digest, DigestKind, Edge, Key, R, Row, Rows, Schema,
     SchemaList, Span, Tables, Value,
@@ -109,6 +110,72 @@ fn log(alloc: Global) -> R<Vec<u8>> {
     Ok(out)
 }
 
+// t with a key id and a column v
+fn client_schemas(alloc: Global) -> R<SchemaList> {
+    let mut columns = Columns::new(alloc);
+    columns.push(column(alloc, b"id", ColumnKind::Int, false)?)?;
+    columns.push(column(alloc, b"v", ColumnKind::Int, true)?)?;
+    let mut schemas = SchemaList::new(alloc);
+    schemas.push(Schema {
+        name: bytes(alloc, b"t")?,
+        columns,
+        key_len: 1,
+    })?;
+    Ok(schemas)
+}
+
+fn id_is_1() -> Cond {
+    Cond::Compare {
+        op: Op::Eq,
+        left: Expr::Cell(0),
+        right: Expr::Lit(Value::Int(1)),
+    }
+}
+
+fn insert(alloc: Global) -> R<Statement> {
+    let mut row = Row::new(alloc);
+    row.push(Value::Int(1))?;
+    row.push(Value::Int(-5))?;
+    Ok(Statement::Insert { table: 0, row })
+}
+
+fn update(alloc: Global) -> R<Statement> {
+    let mut sets = Sets::new(alloc);
+    sets.push(Assignment {
+        column: 1,
+        expr: Expr::Lit(Value::Int(5)),
+    })?;
+    Ok(Statement::Update {
+        table: 0,
+        sets,
+        cond: Some(id_is_1()),
+    })
+}
+
+fn session_log(alloc: Global) -> R<Vec<u8>> {
+    let mut statements = Statements::new(alloc);
+    statements.push(insert(alloc)?)?;
+    statements.push(update(alloc)?)?;
+    statements.push(Statement::Delete {
+        table: 0,
+        cond: Some(id_is_1()),
+    })?;
+    let mut log = Entries::new(alloc);
+    log.push(Entry {
+        origin: Origin::Session(1),
+        statements,
+    })?;
+    let mut out = Vec::new(alloc);
+    push_log(alloc, &mut out, &client_schemas(alloc)?, &log)?;
+    Ok(out)
+}
+
+fn duplicates(alloc: Global) -> R<Vec<u8>> {
+    let mut out = Vec::new(alloc);
+    push_duplicates(alloc, &mut out, 1, &[6])?;
+    Ok(out)
+}
+
 // Four chunks: equal to the source's, other than it, without its checksum, and without a row.
 fn verdicts(alloc: Global) -> R<(Vec<u8>, bool)> {
     let mut own = Checks::new(alloc);
@@ -151,6 +218,18 @@ fn statements_are_written(rt: HostRuntime) -> Result<(), Fail> {
         text.as_slice()
             == b"LOG 1 c\n  CLEARCHECKS t\n  SETMASTER t CHUNK 2 CNT 12 CRC 'abababababababababababababababab'\n".as_slice()
     );
+    Ok(())
+}
+
+#[test]
+fn statements_of_clients_are_written(rt: HostRuntime) -> Result<(), Fail> {
+    let text = session_log(rt.alloc())?;
+    assert!(rt;
+        text.as_slice()
+            == b"LOG 1 s1\n  INSERT INTO t VALUES (1, -5)\n  UPDATE t SET v = 5 WHERE id = 1\n  DELETE FROM t WHERE id = 1\n".as_slice()
+    );
+    let text = duplicates(rt.alloc())?;
+    assert!(rt; text.as_slice() == b"DUPLICATE s1 line 6\n".as_slice());
     Ok(())
 }
 

@@ -1,13 +1,10 @@
-//! How schemas, values, edges and statements are written. After a refusal of memory a text is
-//! incomplete.
+//! How schemas, values and edges are written. After a refusal of memory a text is incomplete.
 ghost use Rattle.std.specs.Prelude.{◌≡◌, ◌++◌, ◌<◌, ◌^◌, length, OnOk};
 ghost use Rattle.std.specs.Fmt.{decimal, signed_decimal};
-ghost use Rattle.cluster_core.specs.Texts.{kind_text, column_text, columns_on, columns_text, table_line, quoted, value_text, values_on, values_text, tuple_text, edge_text, span_text, digest_kind_text, chunk_text, summed_text, master_text, clear_word, statement_text};
+ghost use Rattle.cluster_core.specs.Texts.{kind_text, column_text, columns_on, columns_text, table_line, quoted, value_text, values_on, values_text, tuple_text, edge_text, span_text, digest_kind_text};
 ghost use Rattle.cluster_core.specs.Texts.{name_of as name_in};
 
-use history::crc_text;
-use ptc_statement::Statement;
-use row_types::{Column, ColumnKind, Digest, DigestKind, Edge, R, Schema, SchemaList, Span, Value};
+use row_types::{Column, ColumnKind, DigestKind, Edge, R, Schema, SchemaList, Span, Value};
 use std::alloc::Global;
 
 /// Puts bytes at the end of a text.
@@ -139,7 +136,7 @@ fn push_quoted(out: &mut Vec<u8>, text: &[u8]) -> R<()>
 }
 
 #[tactic(auto, unfolding(crate::specs::Texts::value_text))]
-fn push_value(alloc: Global, out: &mut Vec<u8>, value: &Value) -> R<()>
+pub(crate) fn push_value(alloc: Global, out: &mut Vec<u8>, value: &Value) -> R<()>
     ensures { OnOk result (out.new.items ≡ out.old.items ++ value_text value.now) }
 {
     match value {
@@ -214,92 +211,11 @@ pub(crate) fn push_span(alloc: Global, out: &mut Vec<u8>, span: &Span) -> R<()>
 }
 
 #[tactic(auto, unfolding(crate::specs::Texts::digest_kind_text))]
-fn push_digest_kind(out: &mut Vec<u8>, kind: DigestKind) -> R<()>
+pub(crate) fn push_digest_kind(out: &mut Vec<u8>, kind: DigestKind) -> R<()>
     ensures { OnOk result (out.new.items ≡ out.old.items ++ digest_kind_text kind) }
 {
     match kind {
         DigestKind::Md5 => push_bytes(out, b"MD5"),
         DigestKind::Sha1 => push_bytes(out, b"SHA1"),
-    }
-}
-
-#[tactic(auto, unfolding(crate::specs::Texts::chunk_text))]
-fn push_chunk(
-    alloc: Global,
-    out: &mut Vec<u8>,
-    schemas: &SchemaList,
-    table: u32,
-    chunk: u32,
-) -> R<()>
-    ensures { OnOk result (out.new.items ≡ out.old.items ++ chunk_text schemas.now table chunk) }
-{
-    push_name(out, schemas, table)?;
-    push_bytes(out, b" CHUNK ")?;
-    push_number(alloc, out, chunk as u64)
-}
-
-#[tactic(auto, unfolding(crate::specs::Texts::summed_text))]
-fn push_summed(alloc: Global, out: &mut Vec<u8>, span: &Span, kind: DigestKind) -> R<()>
-    ensures { OnOk result (out.new.items ≡ out.old.items ++ summed_text span.now kind) }
-{
-    push_bytes(out, b" ")?;
-    push_span(alloc, out, span)?;
-    push_bytes(out, b" USING ")?;
-    push_digest_kind(out, kind)
-}
-
-#[tactic(auto, unfolding(crate::specs::Texts::master_text))]
-fn push_master(alloc: Global, out: &mut Vec<u8>, kind: DigestKind, master: &Digest) -> R<()>
-    ensures { OnOk result (out.new.items ≡ out.old.items ++ master_text kind master.now) }
-{
-    push_bytes(out, b" CNT ")?;
-    push_number(alloc, out, master.count)?;
-    push_bytes(out, b" CRC '")?;
-    let crc = crc_text(alloc, master, kind)?;
-    push_bytes(out, crc.as_slice())?;
-    push_bytes(out, b"'")
-}
-
-#[tactic(auto, unfolding(crate::specs::Texts::clear_word))]
-fn push_clear_word(out: &mut Vec<u8>) -> R<()>
-    ensures { OnOk result (out.new.items ≡ out.old.items ++ clear_word) }
-{
-    push_bytes(out, b"CLEARCHECKS ")
-}
-
-#[tactic(auto, unfolding(crate::specs::Texts::statement_text))]
-pub(crate) fn push_statement(
-    alloc: Global,
-    out: &mut Vec<u8>,
-    schemas: &SchemaList,
-    statement: &Statement,
-) -> R<()>
-    ensures { OnOk result (out.new.items ≡ out.old.items ++ statement_text schemas.now statement.now) }
-{
-    match statement {
-        Statement::Check {
-            table,
-            chunk,
-            span,
-            kind,
-        } => {
-            push_bytes(out, b"CHECKSUM ")?;
-            push_chunk(alloc, out, schemas, *table, *chunk)?;
-            push_summed(alloc, out, span, *kind)
-        }
-        Statement::SetMaster {
-            table,
-            chunk,
-            kind,
-            master,
-        } => {
-            push_bytes(out, b"SETMASTER ")?;
-            push_chunk(alloc, out, schemas, *table, *chunk)?;
-            push_master(alloc, out, *kind, master)
-        }
-        Statement::ClearChecks { table } => {
-            push_clear_word(out)?;
-            push_name(out, schemas, *table)
-        }
     }
 }

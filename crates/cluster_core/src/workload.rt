@@ -1,17 +1,19 @@
 ghost use Rattle.std.specs.Prelude.{◌≡◌, ◌<◌, ◌^◌, ◌↔◌, List, [], ◌∷◌, ◌++◌, ℕ, length, IsTrue, IfOk, OnOk, OnErr};
 
+use ptc_statement::Scripts;
 use row_types::{R, Schemas, Tables};
 use std::alloc::Global;
 use std::marker::Model;
 
-/// What a run begins from: the schemas, and the rows of each table on the source and on each of the
-/// replicas, by rising key.
+/// What a run begins from: the schemas, the rows of each table on the source and on each of the
+/// replicas, by rising key, and the scripts of the sessions.
 #[derive(Debug, Drop)]
 pub struct Workload {
     pub schemas: Schemas,
     pub replicas: u32,
     pub source: Tables,
     pub copies: Copies,
+    pub sessions: Scripts,
 }
 
 /// The tables of each replica, by rising number.
@@ -102,6 +104,7 @@ impl Workload {
             replicas: self.replicas,
             source: self.source.copy(alloc)?,
             copies: self.copies.copy(alloc)?,
+            sessions: self.sessions.copy(alloc)?,
         })
     }
 
@@ -112,5 +115,6 @@ impl Workload {
             && self.replicas == other.replicas
             && self.source.same(&other.source)
             && self.copies.same(&other.copies)
+            && self.sessions.same(&other.sessions)
     }
 }

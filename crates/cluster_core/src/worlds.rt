@@ -4,29 +4,35 @@ ghost use Rattle.row_types.specs.Fit.{IsSchema, AreTables};
 ghost use Rattle.history.specs.Checks.{check_at};
 ghost use Rattle.cluster_core.specs.Node.{replayed_of};
 ghost use Rattle.cluster_core.specs.Workload.{IsWorkload};
-ghost use Rattle.cluster_core.specs.World.{begun, fresh, turn, tool_turn, worker_turn, tool_logged, published, next_phase, next_applied, order, EndsIn, Reaches};
+ghost use Rattle.cluster_core.specs.World.{begun, fresh, unstarted, session_turn, sessions_from, turn, tool_turn, worker_turn, tool_logged, published, next_phase, next_applied, order, EndsIn, Reaches};
 ghost use Rattle.cluster_core.specs.Report.{report_of, status_of, starts_text, histories_text, verdicts_text, finals_text};
+ghost use Rattle.cluster_core.specs.Good.{IsOneFitting};
+ghost use Rattle.ptc_statement.specs.Fits.{StatementFits};
+ghost use Rattle.row_types.specs.declared.table_schema.Schema.{Schema};
 ghost use Rattle.cluster_core.specs.Turns.{IsNumbered, Takes, TookTurns};
 
 use crate::actors::{Actor, ToolPhase};
 use crate::nodes::Node;
 use crate::report::{push_head, push_log, push_status, push_tables};
 use crate::report_nodes::{
-    push_each_equal, push_each_final, push_each_history, push_each_start, push_each_verdict,
+    push_each_duplicate, push_each_equal, push_each_final, push_each_history, push_each_start,
+    push_each_verdict,
 };
+use crate::sessions::Session;
 use crate::workload::Workload;
-use history::{Entries, Entry, Origin};
-use ptc_statement::{Statement, Statements};
+use history::{Entries, Origin};
+use ptc_statement::{Script, Statement};
 use row_types::{Bytes, DigestKind, R, Schemas, Span, Tables};
 use std::alloc::Global;
 use std::marker::Model;
 
-/// A source, its replicas and the checksum tool. Each turn does one whole statement or applies one
+/// A source, its replicas, the clients' sessions and the checksum tool. Each turn does one whole statement or applies one
 /// whole entry.
 #[derive(Drop)]
 pub struct World {
     source: Node,
     replicas: Vec<Node>,
+    sessions: Vec<Session>,
     phase: ToolPhase,
     alloc: Global,
 }
@@ -60,11 +66,11 @@ impl Model for World {
 
     ghost Value = { WorldView };
 
-    ghost use Rattle.cluster_core.specs.WorldParts.{world_view, IsWithinLimits};
+    ghost use Rattle.cluster_core.specs.WorldParts.{world_view, IsKept};
 
     ghost view = { world_view };
 
-    ghost invariant = { IsWithinLimits };
+    ghost invariant = { IsKept };
 }
 
 impl World {
@@ -78,11 +84,14 @@ impl World {
             replicas: _,
             source,
             copies,
+            sessions,
         } = workload;
         let replicas = fresh_nodes(alloc, &schemas, copies.items)?;
+        let sessions = fresh_sessions(alloc, sessions.items)?;
         Ok(World {
             source: Node::new(alloc, schemas, source)?,
             replicas,
+            sessions,
             phase: ToolPhase::Clear { table: 0 },
             alloc,
         })
@@ -95,6 +104,7 @@ impl World {
         ensures err { OnErr result (self.new ≡ self.old) }
     {
         match actor {
+            Actor::Session(session) => self.session_turn(session),
             Actor::Tool => self.tool_turn(),
             Actor::Worker { replica, worker: 1 } => self.worker_turn(replica),
             Actor::Worker { .. } => Ok(false),
@@ -126,6 +136,7 @@ impl World {
         self.push_histories(&mut out)?;
         let status = self.push_verdicts(&mut out)?;
         self.push_finals(&mut out)?;
+        push_each_duplicate(self.alloc, &mut out, self.sessions.as_slice())?;
         push_status(self.alloc, &mut out, status)?;
         Ok(RunReport {
             text: Bytes { items: out },
@@ -194,13 +205,14 @@ impl World {
     }
 
     /// One turn of each actor: whether one of them moved.
-    #[tactic(auto, using(crate::proofs::RunLemmas::took_first, crate::proofs::RunLemmas::took_worker, crate::proofs::RunLemmas::took_reaches, crate::proofs::RunLemmas::reaches_none))]
     fn round(&mut self) -> R<bool>
         ensures ok { IfOk result (λ moved. TookTurns self.old self.new (order self.old) moved) }
         ensures err { OnErr result (Reaches self.old self.new) }
     {
         let replicas = self.replicas.len() as u32;
-        let mut moved = self.turn(Actor::Tool)?;
+        let mut moved = self.session_turns()?;
+        let step = self.turn(Actor::Tool)?;
+        moved = moved | step;
         for place in 0..replicas {
             let actor = Actor::Worker {
                 replica: place + 1,
@@ -209,6 +221,34 @@ impl World {
             let step = self.turn(actor)?;
             moved = moved | step;
         }
+        Ok(moved)
+    }
+
+    /// One turn of each session: whether one of them moved.
+    fn session_turns(&mut self) -> R<bool>
+        ensures ok { IfOk result (λ moved. TookTurns self.old self.new (sessions_from 1 self.old.sessions) moved) }
+        ensures err { OnErr result (Reaches self.old self.new) }
+    {
+        let sessions = self.sessions.len() as u32;
+        let mut moved = false;
+        for place in 0..sessions {
+            let step = self.turn(Actor::Session(place + 1))?;
+            moved = moved | step;
+        }
+        Ok(moved)
+    }
+
+    fn session_turn(&mut self, session: u32) -> R<bool>
+        requires { 1 ≤ session }
+        ensures ok { IfOk result (λ moved. Takes (session_turn session self.old) moved self.old self.new) }
+        ensures err { OnErr result (self.new ≡ self.old) }
+    {
+        let place = (session - 1) as usize;
+        if self.sessions.len() <= place {
+            return Ok(false);
+        }
+        let one = &mut self.sessions[place];
+        let moved = one.turn(self.alloc, session, &mut self.source)?;
         Ok(moved)
     }
 
@@ -267,20 +307,15 @@ impl World {
     }
 
     fn log_by_tool(&mut self, statement: Statement, phase: ToolPhase) -> R<()>
+        requires { (schema : Schema) → StatementFits schema statement }
         ensures ok { OnOk result (self.new ≡ tool_logged statement phase self.old) }
         ensures err { OnErr result (self.new ≡ self.old) }
     {
-        let mut statements = Statements::new(self.alloc);
-        statements.push(statement)?;
-        self.source.log(Entry {
-            origin: Origin::Checksum,
-            statements,
-        })?;
+        self.source.log(Origin::Checksum, statement)?;
         self.phase = phase;
         Ok(())
     }
 
-    #[tactic(auto, using(crate::proofs::RunLemmas::worker_takes))]
     fn worker_turn(&mut self, replica: u32) -> R<bool>
         requires { 1 ≤ replica }
         ensures ok { IfOk result (λ moved. Takes (worker_turn replica self.old) moved self.old self.new) }
@@ -309,8 +344,21 @@ fn fresh_nodes(alloc: Global, schemas: &Schemas, mut copies: Vec<Tables>) -> R<V
     Ok(nodes)
 }
 
+/// A session for each of these scripts, which are taken from the front.
+fn fresh_sessions(alloc: Global, mut scripts: Vec<Script>) -> R<Vec<Session>>
+    ensures { IfOk result (λ sessions. sessions.items ≡ map unstarted scripts.items) }
+{
+    let mut sessions = Vec::new(alloc);
+    while !scripts.is_empty() {
+        let script = scripts.remove(0);
+        sessions.push(Session::new(alloc, script))?;
+    }
+    Ok(sessions)
+}
+
 /// Applies the log's next entry whole, where there is one.
 fn apply_next(alloc: Global, log: &Entries, node: &mut Node) -> R<bool>
+    requires { AllByRecursion (IsOneFitting node.old.schemas) log.now }
     ensures ok { IfOk result (λ moved. Takes (next_applied log.now node.old) moved node.old node.new) }
     ensures err { OnErr result (node.new ≡ node.old) }
 {
@@ -318,10 +366,12 @@ fn apply_next(alloc: Global, log: &Entries, node: &mut Node) -> R<bool>
     let Some(entry) = log.as_slice().get(applied as usize) else {
         return Ok(false);
     };
-    let item = Entry {
-        origin: Origin::Applied(applied + 1),
-        statements: entry.statements.copy(alloc)?,
-    };
-    node.log(item)?;
-    Ok(true)
+    match entry.statements.as_slice() {
+        [statement] => {
+            let statement = statement.copy(alloc)?;
+            node.log(Origin::Applied(applied + 1), statement)?;
+            Ok(true)
+        }
+        _ => unreachable!(),
+    }
 }

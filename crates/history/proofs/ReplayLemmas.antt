@@ -1,21 +1,26 @@
 -- Replays of logs and histories that grow by an entry.
-use Rattle.std.proofs.Common.{◌≡◌, ℕ, zero, suc, ◌+◌, ◌<◌, ◌≤◌, List, [], ◌∷◌, ◌++◌, length, take, Some, slice_get, refl, ap, ◌∙◌, sym, subst, cond, arith, length-take-le, ◌==◌}
+use Rattle.std.proofs.Common.{◌≡◌, ℕ, zero, suc, ◌+◌, ◌<◌, ◌≤◌, List, [], ◌∷◌, ◌++◌, length, take, Some, slice_get, None, refl, ap, ◌∙◌, sym, subst, cond, arith, length-take-le, ◌==◌}
+use Rattle.std.specs.Prelude.{slice_set}
+use Rattle.std.specs.Option.{option_map_or}
 use Rattle.std.proofs.lemmas.List.{set-get_or, take_more}
 use Rattle.std.proofs.lemmas.Bool.Decides.{nat_tests}
 use Rattle.std.proofs.lemmas.Option.{get_or_from_slice_get, slice_get_within}
 use Rattle.row_types.specs.declared.values.Value.{Value}
 use Rattle.row_types.specs.declared.table_schema.Schema.{Schema}
+use Rattle.row_types.specs.declared.edges.Span.{Span}
+use Rattle.row_types.specs.declared.digests.DigestKind.{DigestKind}
 use Rattle.ptc_statement.specs.declared.statements.Statement.{Statement}
 use Rattle.ptc_statement.specs.declared.statements.Statement.TheVariants.{Check, SetMaster, ClearChecks}
 use Rattle.history.specs.declared.entries.Entry.{Entry}
-use Rattle.history.specs.Replay.{Replayed, tables_after, after_statement, after_entry, replay_from, fold, position_of, applied_from, applied_of, after_statements, applying, source_at, up_to_applied, applies, FollowsFrom, Follows}
+use Rattle.history.specs.Replay.{Replayed, table_rows, tables_after, after_statement, after_entry, replay_from, fold, position_of, applied_from, applied_of, after_statements, applying, source_at, up_to_applied, applies, FollowsFrom, Follows}
 use Rattle.history.specs.Headline.{IsTrueMaster, MastersAreTrueFrom, MastersAreTrue}
 
--- the tool's statements leave every table as it is
-pub tables_after-unchanged : (statement : Statement) (tables : List (List (List Value))) → tables_after statement tables ≡ tables
-tables_after-unchanged (Check table chunk span kind) tables = set-get_or tables table []
-tables_after-unchanged (SetMaster table chunk kind master) tables = set-get_or tables table []
-tables_after-unchanged (ClearChecks table) tables = set-get_or tables table []
+-- a CHECKSUM leaves every table as it is
+pub tables_after-check : (schemas : List Schema) (table chunk : ℕ) (span : Span) (kind : DigestKind) (tables : List (List (List Value)))
+    → tables_after schemas (Check table chunk span kind) tables ≡ tables
+tables_after-check schemas table chunk span kind tables =
+    elim (slice_get schemas table) as (λ o. option_map_or (λ (schema : Schema). slice_set tables table (table_rows tables table)) o tables ≡ tables)
+    [ None ↦ refl | Some schema ↦ set-get_or tables table [] ]
 
 -- the replay of one entry more
 replay_from_more : (schemas : List Schema) (number : ℕ) (entries : List Entry) (entry : Entry) (here : Replayed)

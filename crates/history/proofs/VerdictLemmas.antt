@@ -8,7 +8,7 @@ use Rattle.row_types.specs.declared.digests.DigestKind.{DigestKind}
 use Rattle.row_types.specs.declared.edges.Span.{Span}
 use Rattle.row_types.specs.declared.table_schema.Schema.{Schema}
 use Rattle.ptc_statement.specs.declared.statements.Statement.{Statement}
-use Rattle.ptc_statement.specs.declared.statements.Statement.TheVariants.{Check, SetMaster, ClearChecks}
+use Rattle.ptc_statement.specs.declared.statements.Statement.TheVariants.{Insert, Delete, Update, Check, SetMaster, ClearChecks}
 use Rattle.history.specs.declared.entries.Entry.{Entry}
 use Rattle.history.specs.declared.checks.CheckRow.{CheckRow}
 use Rattle.history.specs.declared.checks.Verdict.TheVariants.{Same, Differ, Pending}
@@ -17,7 +17,7 @@ use Rattle.history.specs.Digest.{digest_of}
 use Rattle.history.specs.Replay.{Replayed, chunk_rows, tables_after, checks_after, after_statement, position_of, fold, source_at, replica_at, applying, applied_of, Follows}
 use Rattle.history.specs.Headline.{IsTrueMaster, MastersAreTrue, Compares, HasStatementAt, EachVerdictCompares}
 use Rattle.history.proofs.CheckLemmas.{check_at-with_check, check_at-with_master, check_at-without_table, digest_eq-Decides}
-use Rattle.history.proofs.ReplayLemmas.{tables_after-unchanged, after_entry-one, fold-take_more, follows_at, follows_length, applied_of-follows, masters_at, up_to_applied-follows}
+use Rattle.history.proofs.ReplayLemmas.{tables_after-check, after_entry-one, fold-take_more, follows_at, follows_length, applied_of-follows, masters_at, up_to_applied-follows}
 
 -- at a position that the history has applied the log has the CHECKSUM of the chunk
 pub record CheckedAt (log history : List Entry) (table chunk position : ℕ) (span : Span) (kind : DigestKind) : Type 0 where
@@ -81,12 +81,15 @@ agree_cleared place source_rows replica_rows false source_old old before = befor
 
 -- one statement on both keeps a chunk's rows agreeing
 agree_statement : (schemas : List Schema) (place : ℕ → Span → DigestKind → Type 0) (source_rows replica_rows : ℕ → Span → List (List Value)) (table chunk source_position position : ℕ) (statement : Statement) (source replica : Replayed)
-    → ((span : Span) → source_rows position span ≡ chunk_rows schemas (tables_after statement source.tables) table span)
-    → ((span : Span) → replica_rows position span ≡ chunk_rows schemas (tables_after statement replica.tables) table span)
+    → ((span : Span) → source_rows position span ≡ chunk_rows schemas (tables_after schemas statement source.tables) table span)
+    → ((span : Span) → replica_rows position span ≡ chunk_rows schemas (tables_after schemas statement replica.tables) table span)
     → ((span : Span) (kind : DigestKind) → statement ≡ Check table chunk span kind → place position span kind)
     → IsTrueMaster statement source
     → ChunksAgree place source_rows replica_rows (check_at table chunk source.checks) (check_at table chunk replica.checks)
     → ChunksAgree place source_rows replica_rows (check_at table chunk (checks_after schemas source_position statement source)) (check_at table chunk (checks_after schemas position statement replica))
+agree_statement schemas place source_rows replica_rows table chunk source_position position (Insert t row) source replica source_is replica_is is_placed master before = before
+agree_statement schemas place source_rows replica_rows table chunk source_position position (Delete t where_true) source replica source_is replica_is is_placed master before = before
+agree_statement schemas place source_rows replica_rows table chunk source_position position (Update t sets where_true) source replica source_is replica_is is_placed master before = before
 agree_statement schemas place source_rows replica_rows table chunk source_position position (Check t c span kind) source replica source_is replica_is is_placed master before =
     let statement : Statement = Check t c span kind in
     let source_new : CheckRow = record { span = span; kind = kind; this = digest_of kind (chunk_rows schemas source.tables t span); master = None; position = source_position } in
@@ -101,10 +104,10 @@ agree_statement schemas place source_rows replica_rows table chunk source_positi
       kind = refl;
       placed = is_placed span kind (ap (λ n. Check n c span kind) (sym place_is.0) ∙ ap (λ n. Check table n span kind) (sym place_is.1));
       source_sum = ap (λ n. digest_of kind (chunk_rows schemas source.tables n span)) (sym place_is.0)
-          ∙ ap (λ tables. digest_of kind (chunk_rows schemas tables table span)) (sym (tables_after-unchanged statement source.tables))
+          ∙ ap (λ tables. digest_of kind (chunk_rows schemas tables table span)) (sym (tables_after-check schemas t c span kind source.tables))
           ∙ ap (digest_of kind) (sym (source_is span));
       own_sum = ap (λ n. digest_of kind (chunk_rows schemas replica.tables n span)) (sym place_is.0)
-          ∙ ap (λ tables. digest_of kind (chunk_rows schemas tables table span)) (sym (tables_after-unchanged statement replica.tables))
+          ∙ ap (λ tables. digest_of kind (chunk_rows schemas tables table span)) (sym (tables_after-check schemas t c span kind replica.tables))
           ∙ ap (digest_of kind) (sym (replica_is span));
       published = λ other e. cc;
     })

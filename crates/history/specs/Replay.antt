@@ -6,10 +6,10 @@ use Rattle.row_types.specs.declared.values.Value.{Value}
 use Rattle.row_types.specs.declared.edges.Span.{Span}
 use Rattle.row_types.specs.declared.table_schema.Schema.{Schema}
 use Rattle.ptc_statement.specs.declared.statements.Statement.{Statement}
-use Rattle.ptc_statement.specs.declared.statements.Statement.TheVariants.{Check, SetMaster, ClearChecks}
+use Rattle.ptc_statement.specs.declared.statements.Statement.TheVariants.{Insert, Delete, Update, Check, SetMaster, ClearChecks}
 use Rattle.ptc_statement.specs.Effect.{table_of, rows_after}
 use Rattle.history.specs.declared.entries.Origin.{Origin}
-use Rattle.history.specs.declared.entries.Origin.TheVariants.{Checksum, Applied}
+use Rattle.history.specs.declared.entries.Origin.TheVariants.{Session, Checksum, Applied}
 use Rattle.history.specs.declared.entries.Entry.{Entry}
 use Rattle.history.specs.declared.checks.CheckEntry.{CheckEntry}
 use Rattle.history.specs.Checks.{with_check, with_master, without_table}
@@ -28,12 +28,18 @@ table_rows tables table = slice_index_or tables table []
 abbrev pub chunk_rows : List Schema → List (List (List Value)) → ℕ → Span → List (List Value)
 chunk_rows schemas tables table span = option_map_or (λ schema. rows_in schema span (table_rows tables table)) (slice_get schemas table) []
 
-abbrev pub tables_after : Statement → List (List (List Value)) → List (List (List Value))
-tables_after statement tables = slice_set tables (table_of statement) (rows_after statement (table_rows tables (table_of statement)))
+-- a statement changes its table by its effect at every key
+abbrev pub tables_after : List Schema → Statement → List (List (List Value)) → List (List (List Value))
+tables_after schemas statement tables =
+    option_map_or (λ (schema : Schema). slice_set tables (table_of statement) (rows_after schema statement (table_rows tables (table_of statement))))
+    (slice_get schemas (table_of statement)) tables
 
 -- CHECKSUM sums the rows as they are at that point; SETMASTER fills in the source's checksum where
 -- the row stands; CLEARCHECKS forgets the table's rows
 abbrev pub checks_after : List Schema → ℕ → Statement → Replayed → List CheckEntry
+checks_after schemas position (Insert table row) here = here.checks
+checks_after schemas position (Delete table where_true) here = here.checks
+checks_after schemas position (Update table sets where_true) here = here.checks
 checks_after schemas position (Check table chunk span kind) here =
     with_check table chunk
     (record { span = span; kind = kind; this = digest_of kind (chunk_rows schemas here.tables table span); master = None; position = position })
@@ -43,7 +49,7 @@ checks_after schemas position (ClearChecks table) here = without_table table her
 
 abbrev pub after_statement : List Schema → ℕ → Statement → Replayed → Replayed
 after_statement schemas position statement here =
-    record { tables = tables_after statement here.tables; checks = checks_after schemas position statement here }
+    record { tables = tables_after schemas statement here.tables; checks = checks_after schemas position statement here }
 
 abbrev pub after_statements : List Schema → ℕ → List Statement → Replayed → Replayed
 after_statements schemas position [] here = here
@@ -52,6 +58,7 @@ after_statements schemas position (statement ∷ statements) here =
 
 -- the position of an item: the number of the source's entry that it applies, else its own number
 abbrev pub position_of : ℕ → Origin → ℕ
+position_of number (Session session) = number
 position_of number Checksum = number
 position_of number (Applied entry) = entry
 
@@ -72,6 +79,7 @@ abbrev pub source_at : List Schema → List (List (List Value)) → List Entry �
 source_at schemas start log position = fold schemas start (take position log)
 
 abbrev pub applies : ℕ → Origin → Bool
+applies position (Session session) = false
 applies position Checksum = false
 applies position (Applied entry) = entry == position
 

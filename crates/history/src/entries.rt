@@ -5,9 +5,10 @@ use row_types::R;
 use std::alloc::Global;
 use std::marker::Model;
 
-/// Who wrote an entry: the checksum tool, or a replica that applied the source's entry of a number.
+/// Who wrote an entry: a session, counted from 1, the checksum tool, or a replica that applied the source's entry of a number.
 #[derive(Clone, Copy, Debug, PartialEq, Eq)]
 pub enum Origin {
+    Session(u32),
     Checksum,
     Applied(u64),
 }

@@ -7,7 +7,7 @@ use Rattle.row_types.specs.declared.values.Value.{Value}
 use Rattle.ptc_run.specs.declared.row_lines.RowLine.{RowLine}
 use Rattle.ptc_run.specs.declared.kept_rows.Nodes.{Nodes}
 use Rattle.ptc_run.specs.RowLines.{NumbersFit, is_for_source, is_for_replica}
-use Rattle.ptc_run.specs.FirstForm.{keys_of, source_rows, replica_rows, IsNotAmong, AreDistinct, Allowed}
+use Rattle.ptc_run.specs.FirstForm.{keys_of, source_rows, replica_rows, IsNotAmong, AreDistinct, AllowedRows}
 use Rattle.ptc_run.specs.KeptRows.{entry_values, Keeps, KeepsBoth, IsKnown, IsNew}
 use Rattle.ptc_run.proofs.ListLemmas.{all_append, all_back, distinct_push, distinct_last}
 
@@ -33,20 +33,20 @@ stays_distinct : (b : Bool) (rows : List RowLine) (row : RowLine) → AreDistinc
 stays_distinct true rows row h new = subst AreDistinct (sym (map_push (λ (r : RowLine). r.key) rows row)) (distinct_push (keys_of rows) row.key h (new refl))
 stays_distinct false rows row h new = subst AreDistinct (sym (ap keys_of (append-nil rows))) h
 
-pub known_not_allowed : (nodes : Nodes) (rows : List RowLine) (row : RowLine) → KeepsBoth nodes rows → IsKnown nodes row → Allowed (rows ++ row ∷ []) → ⊥
+pub known_not_allowed : (nodes : Nodes) (rows : List RowLine) (row : RowLine) → KeepsBoth nodes rows → IsKnown nodes row → AllowedRows (rows ++ row ∷ []) → ⊥
 known_not_allowed nodes rows row k (inl h) a =
     k.source.present row.key h.1 (was_new (is_for_source row.node) (source_rows rows) row h.0 (subst AreDistinct (ap keys_of (source_rows_push rows row)) a.source_once))
 known_not_allowed nodes rows row k (inr h) a =
     k.replica.present row.key h.1 (was_new (is_for_replica row.node) (replica_rows rows) row h.0 (subst AreDistinct (ap keys_of (replica_rows_push rows row)) a.replica_once))
 
-pub allowed_more : (nodes : Nodes) (rows : List RowLine) (row : RowLine) → Allowed rows → KeepsBoth nodes rows → NumbersFit row → IsNew nodes row → Allowed (rows ++ row ∷ [])
+pub allowed_more : (nodes : Nodes) (rows : List RowLine) (row : RowLine) → AllowedRows rows → KeepsBoth nodes rows → NumbersFit row → IsNew nodes row → AllowedRows (rows ++ row ∷ [])
 allowed_more nodes rows row a k fits new = record {
   numbers = all_append NumbersFit rows (row ∷ []) a.numbers (fits, tt);
   source_once = subst AreDistinct (sym (ap keys_of (source_rows_push rows row))) (stays_distinct (is_for_source row.node) (source_rows rows) row a.source_once (λ named. k.source.absent row.key (new.source named)));
   replica_once = subst AreDistinct (sym (ap keys_of (replica_rows_push rows row))) (stays_distinct (is_for_replica row.node) (replica_rows rows) row a.replica_once (λ named. k.replica.absent row.key (new.replica named)));
 }
 
-pub last_fits : (rows : List RowLine) (row : RowLine) → Allowed (rows ++ row ∷ []) → NumbersFit row
+pub last_fits : (rows : List RowLine) (row : RowLine) → AllowedRows (rows ++ row ∷ []) → NumbersFit row
 last_fits rows row a = let last = all_back NumbersFit rows (row ∷ []) a.numbers in last.0
 
 pub same_first : (lines rest more : List (List ℕ)) (line other : List ℕ) → lines ≡ line ∷ rest → lines ≡ other ∷ more → line ≡ other

@@ -1,6 +1,7 @@
 pub mod LineLemmas
 pub mod NumberLemmas
 pub mod RowLemmas
+pub mod ScriptLemmas
 pub mod ListLemmas
 pub mod TableLemmas
 pub mod WorkloadLemmas

@@ -1,5 +1,5 @@
 -- Facts about each element of a list, and lists of keys.
-use Rattle.std.proofs.Common.{◌≢◌, ℤ, Bool, true, false, cond, List, [], ◌∷◌, ◌++◌, map, sym}
+use Rattle.std.proofs.Common.{◌≡◌, ◌≢◌, ◌⊎◌, ℕ, ℤ, Bool, true, false, cond, List, [], ◌∷◌, ◌++◌, map, refl, sym, inl, inr}
 use Rattle.std.specs.Prelude.{filter}
 use Rattle.std.specs.List.{AllByRecursion}
 use Rattle.ptc_run.specs.FirstForm.{IsNotAmong, AreDistinct}
@@ -45,3 +45,27 @@ distinct_last (k ∷ keys) key h = let last = all_back (λ (other : ℤ). other 
 pub distinct_front : (keys more : List ℤ) → AreDistinct (keys ++ more) → AreDistinct keys
 distinct_front [] more h = tt
 distinct_front (k ∷ keys) more h = (all_front (λ (other : ℤ). other ≢ k) keys more h.0, distinct_front keys more h.1)
+
+-- ---- two readings of lines
+
+-- the second list goes on where what stands behind the first one begins with an item's line
+pub record Longer (X : Type 0) (line : X → List ℕ) (xs ys : List X) (left : List (List ℕ)) : Type 0 where
+  pub item : X
+  pub others : List X
+  pub rest : List (List ℕ)
+  pub longer : ys ≡ xs ++ item ∷ others
+  pub is_line : left ≡ line item ∷ rest
+
+pub items_match : {X : Type 0} (line : X → List ℕ) (P : X → Type 0) → ((x y : X) → P x → P y → line x ≡ line y → x ≡ y) → (xs ys : List X) (left right : List (List ℕ)) → AllByRecursion P xs → AllByRecursion P ys → ((x : X) (rest : List (List ℕ)) → right ≡ line x ∷ rest → ⊥) → map line xs ++ left ≡ map line ys ++ right
+    → ((ys ≡ xs) × (left ≡ right)) ⊎ Longer X line xs ys left
+items_match line P once [] [] left right f g never e = inl (refl, e)
+items_match line P once [] (y ∷ ys) left right f g never e = inr (record { item = y; others = ys; rest = map line ys ++ right; longer = refl; is_line = e })
+items_match line P once (x ∷ xs) [] left right f g never e = absurd (never x (map line xs ++ left) (sym e))
+items_match {X} line P once (x ∷ xs) (y ∷ ys) left right f g never e =
+    let heads : line x ≡ line y = cc in
+    let tails : map line xs ++ left ≡ map line ys ++ right = cc in
+    let same : ◌≡◌ {A = X} y x = once y x g.0 f.0 (sym heads) in
+    elim (items_match line P once xs ys left right f.1 g.1 never tails) [
+      | inl h ↦ inl ((λ i. same i ∷ h.0 i), h.1)
+      | inr h ↦ inr (record { item = h.item; others = h.others; rest = h.rest; longer = λ i. same i ∷ h.longer i; is_line = h.is_line })
+    ]

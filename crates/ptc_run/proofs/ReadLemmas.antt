@@ -1,20 +1,31 @@
 -- The steps of the reader.
-use Rattle.std.proofs.Common.{◌≡◌, ℕ, ◌+◌, ◌≤◌, List, [], ◌∷◌, ◌++◌, map, length, refl, sym, ap, subst, ◌∙◌, append_assoc, arith}
+use Rattle.std.proofs.Common.{◌≡◌, ℕ, ◌+◌, ◌≤◌, None, Some, List, [], ◌∷◌, ◌++◌, map, length, refl, sym, ap, subst, ◌∙◌, append_assoc, arith}
 use Rattle.std.specs.Prelude.{codes}
 use Rattle.std.specs.List.{concat}
-use Rattle.std.proofs.lemmas.List.{map_push, length_push}
+use Rattle.std.proofs.lemmas.List.{map_push, length_push, length-map}
 use Rattle.cluster_core.specs.declared.workload.Workload.{Workload}
 use Rattle.ptc_run.specs.declared.row_lines.RowLine.{RowLine}
 use Rattle.ptc_run.specs.declared.kept_rows.Nodes.{Nodes}
+use Rattle.ptc_run.specs.declared.first_form.Parts.{Parts}
+use Rattle.ptc_run.specs.declared.script_lines.ScriptText.{ScriptText}
+use Rattle.ptc_statement.specs.declared.scripts.Script.{Script}
+use Rattle.ptc_statement.specs.declared.scripts.ScriptLine.{ScriptLine}
+use Rattle.ptc_statement.specs.declared.statements.Statement.{Statement}
+use Rattle.ptc_statement.specs.declared.scripts.ScriptStep.TheVariants.{Run}
+use Rattle.ptc_run.specs.ScriptLines.{script_line, session_line, session_lines, sessions_of, statement_of, numbered, NumbersFitScript}
+use Rattle.ptc_run.specs.ScriptReads.{StatementRead, StatementsRead, SessionsRead}
+use Rattle.std.specs.List.{AllByRecursion}
+use Rattle.ptc_run.proofs.ListLemmas.{all_append}
+use Rattle.ptc_run.proofs.ScriptLemmas.{numbered_push}
 use Rattle.ptc_run.specs.Lines.{lines_of}
 use Rattle.ptc_run.specs.RowLines.{row_line}
-use Rattle.ptc_run.specs.FirstForm.{head_lines, end_line, workload_of, IsWorkloadText, IsEarly, Allowed}
-use Rattle.ptc_run.specs.KeptRows.{KeepsBoth, TakesRow, RowsRead, EndsRows, NodesRead, workload_in}
+use Rattle.ptc_run.specs.FirstForm.{head_lines, end_line, workload_of, IsWorkloadText, IsEarly, Allowed, AllowedRows}
+use Rattle.ptc_run.specs.KeptRows.{KeepsBoth, TakesRow, RowsRead, EndsRows, PartsRead, workload_in}
 use Rattle.ptc_run.proofs.LineLemmas.{concat-lines_of, lines_of-nil}
 use Rattle.ptc_run.specs.declared.first_form.FileFault.{FileFault}
 use Rattle.ptc_run.specs.declared.first_form.FileFault.TheVariants.{Early, Limit, Memory}
 use Rattle.ptc_run.specs.Faults.{IsFaultOf}
-use Rattle.ptc_run.proofs.FormLemmas.{early_in_head, early_in_rows, early_behind_end, Allowed-none, early_excludes}
+use Rattle.ptc_run.proofs.FormLemmas.{front_lines, front_parts, early_in_head, early_in_front, early_behind_end, Allowed-none, early_excludes}
 
 -- ---- the fixed lines
 
@@ -52,7 +63,7 @@ head_read bytes one two rest e f g =
 
 pub record RowsSoFar (bytes : List ℕ) (nodes : Nodes) (rest : List ℕ) (count : ℕ) : Type 0 where
   pub rows : List RowLine
-  pub allowed : Allowed rows
+  pub allowed : AllowedRows rows
   pub keeps : KeepsBoth nodes rows
   pub lines : lines_of bytes ≡ map row_line rows ++ lines_of rest
   pub counted : count ≡ length rows
@@ -74,38 +85,93 @@ row_taken bytes nodes after rest left count h t = record {
 pub rows_done : (bytes : List ℕ) (nodes after : Nodes) (rest : List ℕ) (count : ℕ) (h : RowsSoFar bytes nodes rest count) → KeepsBoth after h.rows → EndsRows h.rows (lines_of rest) → RowsRead bytes after rest count
 rows_done bytes nodes after rest count h k ends = record { rows = h.rows; allowed = h.allowed; keeps = k; lines = h.lines; ends = ends; counted = h.counted }
 
+-- ---- the script
+
+pub record StatementsSoFar (bytes : List ℕ) (first : ℕ) (script : List ScriptLine) (rest : List ℕ) (count : ℕ) : Type 0 where
+  pub texts : List ScriptText
+  pub fit : AllByRecursion NumbersFitScript texts
+  pub is_script : script ≡ numbered first texts
+  pub lines : lines_of bytes ≡ map script_line texts ++ lines_of rest
+  pub counted : count ≡ length texts
+  pub room : count + length rest ≤ length bytes
+
+pub no_statements : (bytes : List ℕ) (first : ℕ) (script : List ScriptLine) → ◌≡◌ {A = List ScriptLine} script [] → StatementsSoFar bytes first script bytes 0
+no_statements bytes first script none = record { texts = []; fit = tt; is_script = none; lines = refl; counted = refl; room = omega arith }
+
+pub statement_taken : (bytes : List ℕ) (first : ℕ) (script after : List ScriptLine) (rest left : List ℕ) (count : ℕ) (text : ScriptText) (statement : Statement) → StatementsSoFar bytes first script rest count → StatementRead rest text left → ◌≡◌ {A = Statement} statement (statement_of text) → ◌≡◌ {A = List ScriptLine} after (script ++ record { line = first + count; step = Run statement } ∷ []) → StatementsSoFar bytes first after left (count + 1)
+statement_taken bytes first script after rest left count text statement h t is pushed = record {
+  texts = h.texts ++ text ∷ [];
+  fit = all_append NumbersFitScript h.texts (text ∷ []) h.fit (t.fits, tt);
+  is_script = pushed ∙ (λ i. ◌++◌ {A = ScriptLine} (h.is_script i) (record { line = first + h.counted i; step = Run (is i) } ∷ [])) ∙ sym (numbered_push first h.texts text);
+  lines = h.lines ∙ ap (λ (x : List (List ℕ)). map script_line h.texts ++ x) t.line ∙ sym (append_assoc (map script_line h.texts) (script_line text ∷ []) (lines_of left)) ∙ ap (λ (x : List (List ℕ)). x ++ lines_of left) (sym (map_push script_line h.texts text));
+  counted = omega (arith, h.counted, length_push h.texts text);
+  room = let shorter = t.shorter in let room = h.room in omega arith;
+}
+
+pub session-is : session_line ≡ codes "SESSION s1\n"
+unfolding session_line
+session-is = refl
+
+pub no_session : (bytes : List ℕ) (rows : ℕ) (sessions : List Script) → ((more : List (List ℕ)) → lines_of bytes ≡ codes "SESSION s1\n" ∷ more → ⊥) → ◌≡◌ {A = List Script} sessions [] → SessionsRead bytes rows sessions bytes rows
+no_session bytes rows sessions other none = record { script = None; allowed = tt; is_sessions = none; lines = refl; ends = λ more e. other more (e ∙ ap (λ (x : List ℕ). x ∷ more) session-is); counted = omega arith }
+
+pub one_session : (bytes behind rest : List ℕ) (rows : ℕ) (old new : List Script) (script : List ScriptLine) (count : ℕ) → lines_of bytes ≡ codes "SESSION s1\n" ∷ lines_of behind → StatementsRead behind (rows + 5) script rest count → ◌≡◌ {A = List Script} old [] → ◌≡◌ {A = List Script} new (old ++ record { lines = script } ∷ []) → SessionsRead bytes rows new rest (rows + 1 + count)
+one_session bytes behind rest rows old new script count e h none pushed = record {
+  script = Some h.texts;
+  allowed = h.fit;
+  is_sessions = pushed ∙ (λ i. ◌++◌ {A = Script} (none i) (record { lines = h.is_script i } ∷ []));
+  lines = e ∙ (λ i. sym session-is i ∷ h.lines i);
+  ends = h.ends;
+  counted = omega (arith, h.counted, length-map h.texts script_line);
+}
+
 -- ---- the end
 
 abbrev Behind : List ℕ → List ℕ → Type 0
 Behind bytes rest = lines_of bytes ≡ head_lines ++ lines_of rest
 
-pub early_row : (bytes behind rest : List ℕ) (nodes : Nodes) (count : ℕ) → Behind bytes behind → RowsRead behind nodes rest count → ((more : List (List ℕ)) → lines_of rest ≡ codes "END\n" ∷ more → ⊥) → IsEarly bytes (count + 4)
-early_row bytes behind rest nodes count e h other =
-    subst (λ (n : ℕ). IsEarly bytes (n + 4)) (sym h.counted)
-    (early_in_rows bytes h.rows (lines_of rest) (e ∙ ap (λ (x : List (List ℕ)). head_lines ++ x) h.lines) h.allowed h.ends (λ more is. other more (is ∙ ap (λ (x : List ℕ). x ∷ more) end-is)))
+pub front_read : (bytes behind rest last : List ℕ) (nodes : Nodes) (rows : ℕ) (sessions : List Script) (count : ℕ) → Behind bytes behind → (h : RowsRead behind nodes rest rows) → (s : SessionsRead rest rows sessions last count) → lines_of bytes ≡ front_lines h.rows s.script ++ lines_of last
+front_read bytes behind rest last nodes rows sessions count e h s =
+    e ∙ ap (λ (x : List (List ℕ)). head_lines ++ x) (h.lines ∙ ap (λ (x : List (List ℕ)). map row_line h.rows ++ x) s.lines) ∙ sym (front_parts h.rows s.script (lines_of last))
+
+allowed_read : (behind rest last : List ℕ) (nodes : Nodes) (rows : ℕ) (sessions : List Script) (count : ℕ) (h : RowsRead behind nodes rest rows) (s : SessionsRead rest rows sessions last count) → Allowed h.rows s.script
+allowed_read behind rest last nodes rows sessions count h s = record { of_rows = h.allowed; of_script = s.allowed }
+
+pub early_row : (bytes behind rest last : List ℕ) (nodes : Nodes) (rows : ℕ) (sessions : List Script) (count : ℕ) → Behind bytes behind → RowsRead behind nodes rest rows → SessionsRead rest rows sessions last count → ((more : List (List ℕ)) → lines_of last ≡ codes "END\n" ∷ more → ⊥) → IsEarly bytes (count + 4)
+early_row bytes behind rest last nodes rows sessions count e h s other =
+    let number : length h.rows + length (session_lines s.script) + 4 ≡ count + 4 = omega (arith, h.counted, s.counted) in
+    subst (IsEarly bytes) number
+    (early_in_front bytes h.rows s.script (lines_of last) (front_read bytes behind rest last nodes rows sessions count e h s) (allowed_read behind rest last nodes rows sessions count h s) (subst (EndsRows h.rows) s.lines h.ends) s.ends (λ more is. other more (is ∙ ap (λ (x : List ℕ). x ∷ more) end-is)))
 
 some_lines : (rest : List ℕ) → (rest ≡ [] → ⊥) → lines_of rest ≡ [] → ⊥
 some_lines rest some none = some (sym (concat-lines_of rest) ∙ ap concat none)
 
-pub early_line : (bytes behind rest last : List ℕ) (nodes : Nodes) (count : ℕ) → Behind bytes behind → RowsRead behind nodes rest count → lines_of rest ≡ codes "END\n" ∷ lines_of last → (last ≡ [] → ⊥) → IsEarly bytes (count + 5)
-early_line bytes behind rest last nodes count e h end some =
-    subst (λ (n : ℕ). IsEarly bytes (n + 5)) (sym h.counted)
-    (early_behind_end bytes h.rows (lines_of last) (e ∙ ap (λ (x : List (List ℕ)). head_lines ++ x) (h.lines ∙ ap (λ (x : List (List ℕ)). map row_line h.rows ++ x) (end ∙ ap (λ (x : List ℕ). x ∷ lines_of last) (sym end-is)))) h.allowed (some_lines last some))
+pub early_line : (bytes behind rest last after : List ℕ) (nodes : Nodes) (rows : ℕ) (sessions : List Script) (count : ℕ) → Behind bytes behind → RowsRead behind nodes rest rows → SessionsRead rest rows sessions last count → lines_of last ≡ codes "END\n" ∷ lines_of after → (after ≡ [] → ⊥) → IsEarly bytes (count + 5)
+early_line bytes behind rest last after nodes rows sessions count e h s end some =
+    let number : length h.rows + length (session_lines s.script) + 5 ≡ count + 5 = omega (arith, h.counted, s.counted) in
+    let lines : lines_of last ≡ end_line ∷ lines_of after = end ∙ ap (λ (x : List ℕ). x ∷ lines_of after) (sym end-is) in
+    subst (IsEarly bytes) number
+    (early_behind_end bytes h.rows s.script (lines_of after) (front_read bytes behind rest last nodes rows sessions count e h s ∙ ap (λ (x : List (List ℕ)). front_lines h.rows s.script ++ x) lines) (allowed_read behind rest last nodes rows sessions count h s) (some_lines after some))
 
-pub all_read : (bytes behind rest last : List ℕ) (nodes : Nodes) (count : ℕ) → Behind bytes behind → RowsRead behind nodes rest count → lines_of rest ≡ codes "END\n" ∷ lines_of last → last ≡ [] → NodesRead bytes nodes
-all_read bytes behind rest last nodes count e h end none = record {
-  rows = h.rows;
-  allowed = h.allowed;
-  keeps = h.keeps;
-  lines = e ∙ ap (λ (x : List (List ℕ)). head_lines ++ x) (h.lines ∙ ap (λ (x : List (List ℕ)). map row_line h.rows ++ x) (end ∙ ap (λ (x : List ℕ). x ∷ lines_of last) (sym end-is) ∙ ap (λ (x : List (List ℕ)). end_line ∷ x) (ap lines_of none ∙ lines_of-nil)));
-}
+pub all_read : (bytes behind rest last after : List ℕ) (nodes : Nodes) (rows : ℕ) (sessions : List Script) (count : ℕ) → Behind bytes behind → RowsRead behind nodes rest rows → SessionsRead rest rows sessions last count → lines_of last ≡ codes "END\n" ∷ lines_of after → after ≡ [] → PartsRead bytes (record { nodes = nodes; sessions = sessions })
+all_read bytes behind rest last after nodes rows sessions count e h s end none =
+    let lines : lines_of last ≡ end_line ∷ [] = end ∙ ap (λ (x : List ℕ). x ∷ lines_of after) (sym end-is) ∙ ap (λ (x : List (List ℕ)). end_line ∷ x) (ap lines_of none ∙ lines_of-nil) in
+    record {
+      rows = h.rows;
+      script = s.script;
+      allowed = allowed_read behind rest last nodes rows sessions count h s;
+      keeps = h.keeps;
+      sessions = s.is_sessions ∙ ap (λ (n : ℕ). sessions_of (n + 5) s.script) h.counted;
+      lines = front_read bytes behind rest last nodes rows sessions count e h s ∙ ap (λ (x : List (List ℕ)). front_lines h.rows s.script ++ x) lines ∙ front_parts h.rows s.script (end_line ∷ []);
+    }
 
-pub workload_read : (bytes : List ℕ) (nodes : Nodes) (w : Workload) → NodesRead bytes nodes → ◌≡◌ {A = Workload} w (workload_in nodes) → IsWorkloadText bytes w
-workload_read bytes nodes w h e = record {
+pub workload_read : (bytes : List ℕ) (parts : Parts) (w : Workload) → PartsRead bytes parts → ◌≡◌ {A = Workload} w (workload_in parts.nodes parts.sessions) → IsWorkloadText bytes w
+workload_read bytes parts w h e = record {
   rows = h.rows;
+  script = h.script;
   text = sym (concat-lines_of bytes) ∙ ap concat h.lines;
   allowed = h.allowed;
-  workload = e ∙ (λ i. record (workload_of h.rows) { source = h.keeps.source.same i ∷ []; copies = (h.keeps.replica.same i ∷ []) ∷ [] });
+  workload = e ∙ (λ i. record (workload_of h.rows h.script) { source = h.keeps.source.same i ∷ []; copies = (h.keeps.replica.same i ∷ []) ∷ []; sessions = h.sessions i });
 }
 
 pub only_memory : (bytes : List ℕ) (fault : FileFault) (w : Workload) → IsFaultOf bytes fault → IsWorkloadText bytes w → length bytes ≤ 16777216 → fault ≡ Memory

@@ -14,7 +14,7 @@ use Rattle.ptc_run.specs.FirstForm.{end_line}
 use Rattle.ptc_run.proofs.LineLemmas.{free-append, IsLine}
 use Rattle.ptc_run.proofs.NumberLemmas.{number_once, number_free}
 
-tail_is : (a b : List ℕ) → ((a ++ 44 ∷ (32 ∷ [])) ++ b) ++ 41 ∷ (10 ∷ []) ≡ a ++ 44 ∷ (32 ∷ (b ++ 41 ∷ (10 ∷ [])))
+pub tail_is : (a b : List ℕ) → ((a ++ 44 ∷ (32 ∷ [])) ++ b) ++ 41 ∷ (10 ∷ []) ≡ a ++ 44 ∷ (32 ∷ (b ++ 41 ∷ (10 ∷ [])))
 tail_is a b = append_assoc (a ++ 44 ∷ (32 ∷ [])) b (41 ∷ (10 ∷ [])) ∙ append_assoc a (44 ∷ (32 ∷ [])) (b ++ 41 ∷ (10 ∷ []))
 
 -- the parts that the reader goes by
@@ -37,7 +37,7 @@ row_found line rest numbers node key value e f g = e ∙ ap (λ (x : List ℕ). 
 pub same_row : (node : RowNode) (key value : ℤ) (row : RowLine) → node ≡ row.node → key ≡ row.key → value ≡ row.value → ◌≡◌ {A = Option RowLine} (Some (record { node = node; key = key; value = value })) (Some row)
 same_row node key value row a b c = λ i. Some (record { node = a i; key = b i; value = c i })
 
-abbrev first : List ℕ → ℕ
+abbrev pub first : List ℕ → ℕ
 first xs = get_or xs 0 0
 
 node_once : (m n : RowNode) (xs ys : List ℕ) → node_text m ++ xs ≡ node_text n ++ ys → (m ≡ n) × (xs ≡ ys)
@@ -53,14 +53,19 @@ node_once Replica Replica xs ys h = (refl, append_cancel_left (node_text Replica
 
 -- ---- each line begins with its word, has one reading, and ends in a line feed
 
+pub numbers_once : (key value k v : ℤ) → FitsSigned w64 key × FitsSigned w64 value → FitsSigned w64 k × FitsSigned w64 v → numbers_text key value ≡ numbers_text k v → (key ≡ k) × (value ≡ v)
+numbers_once key value k v f g e =
+    let keys = number_once 44 (lit< tt) key k _ _ f.0 g.0 e in
+    let behind_blank : signed_decimal value ++ 41 ∷ (10 ∷ []) ≡ signed_decimal v ++ 41 ∷ (10 ∷ []) = let h = keys.1 in cc in
+    let values = number_once 41 (lit< tt) value v (10 ∷ []) (10 ∷ []) f.1 g.1 behind_blank in
+    (keys.0, values.0)
+
 pub row_line_once : (x y : RowLine) → NumbersFit x → NumbersFit y → row_line x ≡ row_line y → ◌≡◌ {A = RowLine} x y
 row_line_once x y f g e =
     let rest = behind_row (row_line x) (node_text x.node ++ numbers_text x.key x.value) y (row_line_is x) e in
     let nodes = node_once x.node y.node (numbers_text x.key x.value) (numbers_text y.key y.value) rest in
-    let keys = number_once 44 (lit< tt) x.key y.key _ _ f.0 g.0 nodes.1 in
-    let behind_blank : signed_decimal x.value ++ 41 ∷ (10 ∷ []) ≡ signed_decimal y.value ++ 41 ∷ (10 ∷ []) = let k = keys.1 in cc in
-    let values = number_once 41 (lit< tt) x.value y.value (10 ∷ []) (10 ∷ []) f.1 g.1 behind_blank in
-    λ i. record { node = nodes.0 i; key = keys.0 i; value = values.0 i }
+    let numbers = numbers_once x.key x.value y.key y.value f g nodes.1 in
+    λ i. record { node = nodes.0 i; key = numbers.0 i; value = numbers.1 i }
 
 pub row_line_not_end : (row : RowLine) → row_line row ≡ end_line → ⊥
 unfolding end_line
@@ -81,14 +86,14 @@ node_free All = free_text 10 (node_text All) refl
 node_free Source = free_text 10 (node_text Source) refl
 node_free Replica = free_text 10 (node_text Replica) refl
 
-numbers_line : (a b : List ℕ) → a ++ 44 ∷ (32 ∷ (b ++ 41 ∷ (10 ∷ []))) ≡ (a ++ 44 ∷ (32 ∷ (b ++ 41 ∷ []))) ++ 10 ∷ []
+pub numbers_line : (a b : List ℕ) → a ++ 44 ∷ (32 ∷ (b ++ 41 ∷ (10 ∷ []))) ≡ (a ++ 44 ∷ (32 ∷ (b ++ 41 ∷ []))) ++ 10 ∷ []
 numbers_line a b = sym (append_assoc a (44 ∷ (32 ∷ (b ++ 41 ∷ []))) (10 ∷ []) ∙ ap (λ (x : List ℕ). a ++ 44 ∷ (32 ∷ x)) (append_assoc b (41 ∷ []) (10 ∷ [])))
 
 -- the numbers without the line feed
-abbrev numbers_front : ℤ → ℤ → List ℕ
+abbrev pub numbers_front : ℤ → ℤ → List ℕ
 numbers_front key value = signed_decimal key ++ 44 ∷ (32 ∷ (signed_decimal value ++ 41 ∷ []))
 
-numbers_free : (key value : ℤ) → FitsSigned w64 key → FitsSigned w64 value → IsFreeOf 10 (numbers_front key value)
+pub numbers_free : (key value : ℤ) → FitsSigned w64 key → FitsSigned w64 value → IsFreeOf 10 (numbers_front key value)
 numbers_free key value f g =
     free-append 10 (signed_decimal key) (44 ∷ (32 ∷ (signed_decimal value ++ 41 ∷ []))) (number_free 10 (lit< tt) key f)
     ((λ e. omega arith), ((λ e. omega arith), free-append 10 (signed_decimal value) (41 ∷ []) (number_free 10 (lit< tt) value g) ((λ e. omega arith), tt)))

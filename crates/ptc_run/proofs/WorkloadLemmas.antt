@@ -1,14 +1,24 @@
--- The workload of allowed rows keeps the rules.
-use Rattle.std.proofs.Common.{◌≡◌, ℕ, ℤ, List, [], ◌∷◌, map, refl, sym, ap, subst, ◌∙◌, Ordering, Less, Equal, Greater, int_cmp, FitsSigned, w64, lit≤}
+-- The workload of allowed rows and an allowed script keeps the rules.
+use Rattle.std.proofs.Common.{◌≡◌, ◌<◌, ◌≤◌, ◌+◌, ℕ, ℤ, Option, None, Some, true, arith, List, [], ◌∷◌, map, length, refl, sym, ap, subst, ◌∙◌, Ordering, Less, Equal, Greater, int_cmp, FitsSigned, w64, lit≤}
 use Rattle.std.specs.Ordering.{match_ordering, ordering_then, ordering_reverse}
-use Rattle.std.specs.List.{AllByRecursion}
+use Rattle.std.specs.List.{AllByRecursion, slice_get}
+use Rattle.std.specs.Prelude.{codes}
 use Rattle.std.specs.BTreeMap.{insert_entry}
 use Rattle.std.specs.Cmp.{int_cmp_total}
 use Rattle.row_types.specs.declared.values.Value.{Value}
 use Rattle.row_types.specs.declared.values.Value.TheVariants.{Int}
 use Rattle.row_types.specs.Fit.{with_rows, IsTable, IsBelowAll, IsSchema}
 use Rattle.cluster_core.specs.declared.workload.Workload.{Workload}
-use Rattle.cluster_core.specs.Workload.{IsWorkload}
+use Rattle.cluster_core.specs.Workload.{IsWorkload, ScriptFits, StepFits, LinesRise}
+use Rattle.row_types.specs.declared.table_schema.Schema.{Schema}
+use Rattle.row_types.specs.declared.table_schema.ColumnKind.TheVariants.{BigInt}
+use Rattle.ptc_statement.specs.declared.scripts.ScriptLine.{ScriptLine}
+use Rattle.ptc_statement.specs.Effect.{table_of as table_number}
+use Rattle.ptc_statement.specs.Fits.{IsClients, FitsSchemas, StatementFits}
+use Rattle.ptc_run.specs.declared.script_lines.ScriptText.{ScriptText}
+use Rattle.ptc_run.specs.declared.script_lines.ScriptText.TheVariants.{Insert, Update, Delete}
+use Rattle.ptc_run.specs.ScriptLines.{NumbersFitScript, AllowedScript, statement_of, numbered, sessions_of}
+use Rattle.std.proofs.lemmas.Option.{same_Some}
 use Rattle.ptc_run.specs.declared.row_lines.RowLine.{RowLine}
 use Rattle.ptc_run.specs.RowLines.{NumbersFit, is_for_source, is_for_replica}
 use Rattle.ptc_run.specs.FirstForm.{first_schema, values_of, table_of, source_rows, replica_rows, workload_of, Allowed, IsWorkloadText}
@@ -89,17 +99,64 @@ first_schema-IsSchema = record {
   not_null = (refl, tt);
 }
 
-pub workload_of-IsWorkload : (rows : List RowLine) → Allowed rows → IsWorkload (workload_of rows)
-workload_of-IsWorkload rows h = record {
+-- ---- the script
+
+numbers_later : (texts : List ScriptText) (low number : ℕ) → low < number → AllByRecursion (λ (later : ScriptLine). low < later.line) (numbered number texts)
+numbers_later [] low number lt = tt
+numbers_later (text ∷ texts) low number lt = (lt, numbers_later texts low (number + 1) (omega arith))
+
+lines_rise : (texts : List ScriptText) (number : ℕ) → LinesRise (numbered number texts)
+lines_rise [] number = tt
+lines_rise (text ∷ texts) number = (numbers_later texts number (number + 1) (omega arith), lines_rise texts (number + 1))
+
+statement_fits : (text : ScriptText) → NumbersFitScript text → StatementFits first_schema (statement_of text)
+unfolding first_schema
+statement_fits (Insert key value) f = (f.0, (f.1, tt))
+statement_fits (Update key value) f = (record { behind_key = lit≤ tt; column = record { name = codes "v"; kind = BigInt; nullable = true }; found = refl; fits = tt }, tt)
+statement_fits (Delete key) f = tt
+
+is_clients : (text : ScriptText) → IsClients (statement_of text)
+is_clients (Insert key value) = tt
+is_clients (Update key value) = tt
+is_clients (Delete key) = tt
+
+on_first : (text : ScriptText) → table_number (statement_of text) ≡ 0
+on_first (Insert key value) = refl
+on_first (Update key value) = refl
+on_first (Delete key) = refl
+
+fits_first : (text : ScriptText) → NumbersFitScript text → FitsSchemas (first_schema ∷ []) (statement_of text)
+fits_first text f = λ schema e.
+    let same : ◌≡◌ {A = Schema} first_schema schema = same_Some first_schema schema (sym (ap (slice_get (first_schema ∷ [])) (on_first text)) ∙ e) in
+    subst (λ (s : Schema). StatementFits s (statement_of text)) same (statement_fits text f)
+
+steps_fit : (texts : List ScriptText) (number : ℕ) → AllByRecursion NumbersFitScript texts → AllByRecursion (λ (line : ScriptLine). StepFits (first_schema ∷ []) line.step) (numbered number texts)
+steps_fit [] number f = tt
+steps_fit (text ∷ texts) number f = ((is_clients text, fits_first text f.0), steps_fit texts (number + 1) f.1)
+
+few_sessions : (script : Option (List ScriptText)) (number : ℕ) → length (sessions_of number script) ≤ 64
+few_sessions None number = lit≤ tt
+few_sessions (Some texts) number = lit≤ tt
+
+scripts_fit : (script : Option (List ScriptText)) (number : ℕ) → AllowedScript script → AllByRecursion (ScriptFits (first_schema ∷ [])) (sessions_of number script)
+scripts_fit None number f = tt
+scripts_fit (Some texts) number f = (record { steps = steps_fit texts number f; numbers = lines_rise texts number }, tt)
+
+-- ---- the workload
+
+pub workload_of-IsWorkload : (rows : List RowLine) (script : Option (List ScriptText)) → Allowed rows script → IsWorkload (workload_of rows script)
+workload_of-IsWorkload rows script h = record {
   some_table = lit≤ tt;
   most_tables = lit≤ tt;
   schemas = (first_schema-IsSchema, tt);
   some_replica = lit≤ tt;
   most_replicas = lit≤ tt;
-  source = (table_of-IsTable (source_rows rows) (all_filter NumbersFit (λ (row : RowLine). is_for_source row.node) rows h.numbers), tt);
-  copies = ((table_of-IsTable (replica_rows rows) (all_filter NumbersFit (λ (row : RowLine). is_for_replica row.node) rows h.numbers), tt), tt);
+  source = (table_of-IsTable (source_rows rows) (all_filter NumbersFit (λ (row : RowLine). is_for_source row.node) rows h.of_rows.numbers), tt);
+  copies = ((table_of-IsTable (replica_rows rows) (all_filter NumbersFit (λ (row : RowLine). is_for_replica row.node) rows h.of_rows.numbers), tt), tt);
+  most_sessions = few_sessions script (length rows + 5);
+  scripts = scripts_fit script (length rows + 5) h.of_script;
   each_copied = refl;
 }
 
 pub text-IsWorkload : (bytes : List ℕ) (w : Workload) → IsWorkloadText bytes w → IsWorkload w
-text-IsWorkload bytes w h = subst IsWorkload (sym h.workload) (workload_of-IsWorkload h.rows h.allowed)
+text-IsWorkload bytes w h = subst IsWorkload (sym h.workload) (workload_of-IsWorkload h.rows h.script h.allowed)

@@ -1,15 +1,19 @@
--- The rows of a node as they are kept while the file is read.
-use Rattle.std.specs.Prelude.{◌≡◌, ◌<◌, ◌⊎◌, ℕ, ℤ, List, [], ◌∷◌, ◌++◌, None, IsSome, IsTrue, map, length}
+-- The rows of a node and the scripts as they are kept while the file is read.
+use Rattle.std.specs.Prelude.{◌≡◌, ◌<◌, ◌⊎◌, ℕ, ℤ, List, [], ◌∷◌, ◌++◌, ◌+◌, Option, None, IsSome, IsTrue, map, length}
 use Rattle.std.specs.Ordering.{int_cmp}
 use Rattle.std.specs.BTreeMap.{BTreeMap, get}
 use Rattle.row_types.specs.declared.values.Value.{Value}
 use Rattle.row_types.specs.declared.values.Value.TheVariants.{Int}
 use Rattle.ptc_run.specs.declared.row_lines.RowLine.{RowLine}
 use Rattle.ptc_run.specs.declared.kept_rows.Nodes.{Nodes}
+use Rattle.ptc_run.specs.declared.first_form.Parts.{Parts}
+use Rattle.ptc_run.specs.declared.script_lines.ScriptText.{ScriptText}
+use Rattle.ptc_statement.specs.declared.scripts.Script.{Script}
 use Rattle.ptc_run.specs.Lines.{lines_of}
 use Rattle.ptc_run.specs.RowLines.{row_line, is_for_source, is_for_replica}
 use Rattle.cluster_core.specs.declared.workload.Workload.{Workload}
-use Rattle.ptc_run.specs.FirstForm.{first_schema, text_lines, keys_of, table_of, source_rows, replica_rows, IsNotAmong, Allowed}
+use Rattle.ptc_run.specs.ScriptLines.{sessions_of}
+use Rattle.ptc_run.specs.FirstForm.{first_schema, text_lines, keys_of, table_of, source_rows, replica_rows, IsNotAmong, AllowedRows, Allowed}
 
 abbrev pub entry_values : ℤ × ℤ → List Value
 entry_values entry = Int entry.0 ∷ Int entry.1 ∷ []
@@ -40,12 +44,12 @@ pub record IsNew (nodes : Nodes) (row : RowLine) : Type 0 where
 
 -- behind these rows no further one is allowed at the front of the lines
 pub record EndsRows (rows : List RowLine) (lines : List (List ℕ)) : Type 0 where
-  pub ends : (row : RowLine) (more : List (List ℕ)) → Allowed (rows ++ row ∷ []) → lines ≡ row_line row ∷ more → ⊥
+  pub ends : (row : RowLine) (more : List (List ℕ)) → AllowedRows (rows ++ row ∷ []) → lines ≡ row_line row ∷ more → ⊥
 
 -- the first line was an allowed row, which is kept now
 pub record TakesRow (after : Nodes) (rows : List RowLine) (bytes rest : List ℕ) : Type 0 where
   pub row : RowLine
-  pub allowed : Allowed (rows ++ row ∷ [])
+  pub allowed : AllowedRows (rows ++ row ∷ [])
   pub keeps : KeepsBoth after (rows ++ row ∷ [])
   pub line : lines_of bytes ≡ row_line row ∷ lines_of rest
   pub shorter : length rest < length bytes
@@ -53,24 +57,27 @@ pub record TakesRow (after : Nodes) (rows : List RowLine) (bytes rest : List ℕ
 -- the rows from the front of the bytes on, as far as these are allowed
 pub record RowsRead (bytes : List ℕ) (nodes : Nodes) (rest : List ℕ) (count : ℕ) : Type 0 where
   pub rows : List RowLine
-  pub allowed : Allowed rows
+  pub allowed : AllowedRows rows
   pub keeps : KeepsBoth nodes rows
   pub lines : lines_of bytes ≡ map row_line rows ++ lines_of rest
   pub ends : EndsRows rows (lines_of rest)
   pub counted : count ≡ length rows
 
--- the rows of a whole file
-pub record NodesRead (bytes : List ℕ) (nodes : Nodes) : Type 0 where
+-- the rows and the scripts of a whole file
+pub record PartsRead (bytes : List ℕ) (parts : Parts) : Type 0 where
   pub rows : List RowLine
-  pub allowed : Allowed rows
-  pub keeps : KeepsBoth nodes rows
-  pub lines : lines_of bytes ≡ text_lines rows
+  pub script : Option (List ScriptText)
+  pub allowed : Allowed rows script
+  pub keeps : KeepsBoth parts.nodes rows
+  pub sessions : parts.sessions ≡ sessions_of (length rows + 5) script
+  pub lines : lines_of bytes ≡ text_lines rows script
 
--- the workload with the rows of the maps
-abbrev pub workload_in : Nodes → Workload
-workload_in nodes = record {
+-- the workload with the rows of the maps, and these scripts
+abbrev pub workload_in : Nodes → List Script → Workload
+workload_in nodes sessions = record {
   schemas = record { tables = first_schema ∷ [] };
   replicas = 1;
   source = rows_in nodes.source ∷ [];
   copies = (rows_in nodes.replica ∷ []) ∷ [];
+  sessions = sessions;
 }

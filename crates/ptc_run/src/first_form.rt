@@ -8,12 +8,14 @@ ghost use Rattle.cluster_core.specs.declared.workload.Workload.{Workload as Whol
 ghost use Rattle.cluster_core.specs.Workload.{IsWorkload};
 ghost use Rattle.ptc_run.specs.Lines.{lines_of};
 ghost use Rattle.ptc_run.specs.FirstForm.{head_lines, first_schema, IsWorkloadText, IsEarly};
-ghost use Rattle.ptc_run.specs.KeptRows.{NodesRead, RowsRead, workload_in};
+ghost use Rattle.ptc_run.specs.KeptRows.{PartsRead, RowsRead, workload_in};
 ghost use Rattle.ptc_run.specs.Faults.{IsFaultOf};
 
 use crate::kept_rows::{Nodes, rows_from};
 use crate::line_cuts::behind_line;
+use crate::script_lines::read_sessions;
 use cluster_core::{Copies, Workload};
+use ptc_statement::Scripts;
 use row_types::{
     Bytes, Column, ColumnKind, Columns, Memory, R, Schema, SchemaList, Schemas, Tables,
 };
@@ -119,6 +121,7 @@ fn read_rows(alloc: Global, bytes: &[u8]) -> R<(Nodes, &[u8], u32)>
     requires { length bytes.now ≤ 16777216 }
     ensures rows { IfOk result (λ read. RowsRead bytes.now read.0 read.1.now read.2) }
     ensures few { IfOk result (λ read. read.2 ≤ 16777216) }
+    ensures shorter { IfOk result (λ read. length read.1.now ≤ length bytes.now) }
 {
     let mut nodes = Nodes::new(alloc);
     let mut rest = bytes;
@@ -130,21 +133,29 @@ fn read_rows(alloc: Global, bytes: &[u8]) -> R<(Nodes, &[u8], u32)>
     Ok((nodes, rest, count))
 }
 
-/// The rows of a whole file.
-fn read_nodes(alloc: Global, bytes: &[u8]) -> Result<Nodes, FileFault>
+/// What a file gives: the rows of the nodes, and the scripts of the sessions.
+#[derive(Drop)]
+struct Parts {
+    nodes: Nodes,
+    sessions: Scripts,
+}
+
+/// The parts of a whole file.
+fn read_parts(alloc: Global, bytes: &[u8]) -> Result<Parts, FileFault>
     requires { length bytes.now ≤ 16777216 }
-    ensures { MatchResult result (NodesRead bytes.now) (IsFaultOf bytes.now) }
+    ensures { MatchResult result (PartsRead bytes.now) (IsFaultOf bytes.now) }
 {
     let rest = match behind_head(bytes) {
         Ok(rest) => rest,
         Err(number) => return Err(FileFault::Early { number }),
     };
-    let (nodes, rest, count) = read_rows(alloc, rest)?;
+    let (nodes, rest, rows) = read_rows(alloc, rest)?;
+    let (sessions, rest, count) = read_sessions(alloc, rest, rows)?;
     match behind_line(rest, b"END\n") {
         None => Err(FileFault::Early { number: count + 4 }),
         Some(rest) => {
             if rest.is_empty() {
-                Ok(nodes)
+                Ok(Parts { nodes, sessions })
             } else {
                 Err(FileFault::Early { number: count + 5 })
             }
@@ -188,9 +199,10 @@ fn schema(alloc: Global) -> R<Schemas>
     Ok(Schemas { tables })
 }
 
-fn workload(alloc: Global, nodes: &Nodes) -> R<Workload>
-    ensures { IfOk result (λ w. w ≡ workload_in nodes.now) }
+fn workload(alloc: Global, parts: Parts) -> R<Workload>
+    ensures { IfOk result (λ w. w ≡ workload_in parts.nodes parts.sessions) }
 {
+    let Parts { nodes, sessions } = parts;
     let mut source = Tables::new(alloc);
     source.push(rows_from(alloc, &nodes.source)?)?;
     let mut replica = Tables::new(alloc);
@@ -202,6 +214,7 @@ fn workload(alloc: Global, nodes: &Nodes) -> R<Workload>
         replicas: 1,
         source,
         copies,
+        sessions,
     })
 }
 
@@ -225,10 +238,10 @@ pub fn read(alloc: Global, bytes: &[u8]) -> Result<Workload, FileFault>
             got: 16_777_217,
         });
     }
-    match read_nodes(alloc, bytes) {
+    match read_parts(alloc, bytes) {
         Err(fault) => Err(fault),
-        Ok(nodes) => {
-            let workload = workload(alloc, &nodes)?;
+        Ok(parts) => {
+            let workload = workload(alloc, parts)?;
             Ok(workload)
         }
     }

@@ -6,7 +6,7 @@ ghost use Rattle.std.specs.BTreeMap.{get};
 ghost use Rattle.row_types.specs.declared.values.Value.TheVariants.{Int as Number};
 ghost use Rattle.ptc_run.specs.Lines.{lines_of};
 ghost use Rattle.ptc_run.specs.RowLines.{is_for_source, is_for_replica};
-ghost use Rattle.ptc_run.specs.FirstForm.{Allowed};
+ghost use Rattle.ptc_run.specs.FirstForm.{AllowedRows};
 ghost use Rattle.ptc_run.specs.KeptRows.{rows_in, Keeps, KeepsBoth, IsKnown, IsNew, EndsRows, TakesRow};
 
 use crate::line_cuts::first_line;
@@ -65,7 +65,7 @@ impl Nodes {
 
     /// Takes the first line if it is a ROW line whose key is new, and gives what stands behind it.
     pub fn take_line<'a>(&mut self, bytes: &'a [u8]) -> R<Option<&'a [u8]>>
-        ensures { (rows : List RowLine) → Allowed rows → KeepsBoth self.old rows →
+        ensures { (rows : List RowLine) → AllowedRows rows → KeepsBoth self.old rows →
             IfOk result (λ rest. MatchOption rest
             (KeepsBoth self.new rows × EndsRows rows (lines_of bytes.now))
             (λ rest. TakesRow self.new rows bytes.now rest.now)) }

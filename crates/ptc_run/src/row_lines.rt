@@ -64,7 +64,7 @@ fn number_of(token: &[u8]) -> Option<i64>
 }
 
 /// The number before a stop, and what stands behind the stop.
-fn number_before(bytes: &[u8], stop: u8) -> Option<(i64, &[u8])>
+pub fn number_before(bytes: &[u8], stop: u8) -> Option<(i64, &[u8])>
     requires { stop < 45 }
     ensures found { IfSome result (λ x.
         (bytes.now ≡ signed_decimal x.0 ++ stop ∷ x.1.now) × FitsSigned w64 x.0) }
@@ -100,7 +100,7 @@ fn node_of(bytes: &[u8]) -> Option<(RowNode, &[u8])>
 }
 
 /// The key and the value.
-fn numbers_of(bytes: &[u8]) -> Option<(i64, i64)>
+pub fn numbers_of(bytes: &[u8]) -> Option<(i64, i64)>
     ensures found { IfSome result (λ x.
         (bytes.now ≡ numbers_text x.0 x.1) × FitsSigned w64 x.0 × FitsSigned w64 x.1) }
     ensures only { (key value : ℤ) → FitsSigned w64 key → FitsSigned w64 value →

@@ -167,3 +167,80 @@ fn rows_are_compared(rt: HostRuntime) -> Result<(), Fail> {
     }
     Ok(())
 }
+
+/// A file with a script under `SESSION s1`.
+fn scripted(alloc: Global, rows: &str, script: &str) -> Result<Vec<u8>, AllocError> {
+    let mut bytes = HEAD.as_bytes().to_vec(alloc)?;
+    bytes.extend_from_slice(rows.as_bytes())?;
+    bytes.extend_from_slice(b"SESSION s1\n")?;
+    bytes.extend_from_slice(script.as_bytes())?;
+    bytes.extend_from_slice(b"END\n")?;
+    Ok(bytes)
+}
+
+/// A duplicate on the source, an INSERT that only the replica has already, an UPDATE of an absent
+/// key, a DELETE, and the text that each form prints.
+#[test]
+fn sessions_write(rt: HostRuntime) -> Result<(), Fail> {
+    for (rows, script, code, lines) in [
+        (
+            "ROW * t (1, 10)\n",
+            "INSERT INTO t VALUES (1, 5)\n",
+            0,
+            "EQUAL r1 t\nDUPLICATE s1 line 6\nSTATUS 0\n",
+        ),
+        (
+            "ROW * t (1, 10)\nROW r1 t (5, 50)\n",
+            "INSERT INTO t VALUES (5, 55)\n",
+            16,
+            "FINAL source t (1, 10)\nFINAL source t (5, 55)\nFINAL r1 t (1, 10)\nFINAL r1 t (5, 50)\nUNEQUAL r1 t\nSTATUS 16\n",
+        ),
+        (
+            "ROW * t (1, 10)\n",
+            "UPDATE t SET v = 7 WHERE id = 2\n",
+            0,
+            "LOG 1 s1\n  UPDATE t SET v = 7 WHERE id = 2\nLOG 2 c\n",
+        ),
+        (
+            "ROW * t (1, 10)\nROW * t (2, 20)\n",
+            "DELETE FROM t WHERE id = 1\nINSERT INTO t VALUES (-3, 0)\nUPDATE t SET v = -9 WHERE id = 2\n",
+            0,
+            "FINAL source t (-3, 0)\nFINAL source t (2, -9)\nFINAL r1 t (-3, 0)\nFINAL r1 t (2, -9)\nEQUAL r1 t\nSTATUS 0\n",
+        ),
+        (
+            "ROW source t (1, 10)\nROW r1 t (1, 11)\n",
+            "UPDATE t SET v = 12 WHERE id = 1\n",
+            0,
+            "COUNT 1 1 SAME\nFINAL source t (1, 12)\nFINAL r1 t (1, 12)\nEQUAL r1 t\nSTATUS 0\n",
+        ),
+    ] {
+        let (got, text) = outcome(rt.alloc(), &["run"], scripted(rt.alloc(), rows, script)?)?;
+        assert_eq!(rt; got, code, "{script}");
+        assert!(rt; has(text.as_slice(), lines), "{script}");
+    }
+    Ok(())
+}
+
+/// A session of a thousand statements.
+#[test]
+fn thousand_statements(rt: HostRuntime) -> Result<(), Fail> {
+    let mut script = String::new(rt.alloc());
+    for i in 0..1000u64 {
+        script.push_str("INSERT INTO t VALUES (")?;
+        script.push_str(i.to_string(rt.alloc())?.as_str())?;
+        script.push_str(", 1)\n")?;
+    }
+    let (code, text) = outcome(
+        rt.alloc(),
+        &["run"],
+        scripted(rt.alloc(), "", script.as_str())?,
+    )?;
+    assert_eq!(rt; code, 0);
+    assert!(rt;
+        has(
+            text.as_slice(),
+            "LOG 1003 s1\n  INSERT INTO t VALUES (999, 1)\nHISTORY r1 applied 1\n"
+        )
+    );
+    Ok(())
+}

@@ -1,15 +1,33 @@
 ghost use Rattle.std.specs.Prelude.{◌≡◌, ◌<◌, ◌^◌, ◌↔◌, List, [], ◌∷◌, ◌++◌, ℕ, length, IsTrue, IfOk, OnOk, OnErr};
+ghost use Rattle.ptc_statement.specs.Effect.{table_of};
 
-use row_types::{Digest, DigestKind, R, Span};
+use crate::expressions::{Cond, Sets, copy_cond, same_cond};
+use row_types::{Digest, DigestKind, R, Row, Span};
 use std::alloc::Global;
 use std::marker::Model;
 
 /// A statement on the table of a number, counted from 0. Chunks are numbered from 1.
 ///
-/// The three are the checksum tool's: pt-table-checksum's REPLACE .. SELECT of a chunk's count and
+/// INSERT, DELETE and UPDATE are the clients'. The other three are the checksum tool's: pt-table-checksum's REPLACE .. SELECT of a chunk's count and
 /// digest, its UPDATE of the source's values, and its DELETE of a table's earlier checksums.
 #[derive(Debug, Drop)]
 pub enum Statement {
+    /// Gives its row where the key is absent.
+    Insert {
+        table: u32,
+        row: Row,
+    },
+    /// Takes away the rows where the condition is true, or all.
+    Delete {
+        table: u32,
+        cond: Option<Cond>,
+    },
+    /// Changes the rows where the condition is true, or all.
+    Update {
+        table: u32,
+        sets: Sets,
+        cond: Option<Cond>,
+    },
     /// Each node sums its own rows of the span.
     Check {
         table: u32,
@@ -31,10 +49,37 @@ pub enum Statement {
 }
 
 impl Statement {
+    /// The number of the table that the statement is on.
+    pub fn table(&self) -> u32
+        ensures { result ≡ table_of self.now }
+    {
+        match self {
+            Statement::Insert { table, .. }
+            | Statement::Delete { table, .. }
+            | Statement::Update { table, .. }
+            | Statement::Check { table, .. }
+            | Statement::SetMaster { table, .. }
+            | Statement::ClearChecks { table } => *table,
+        }
+    }
+
     pub fn copy(&self, alloc: Global) -> R<Statement>
         ensures { IfOk result (λ copy. copy ≡ self.now) }
     {
         match self {
+            Statement::Insert { table, row } => Ok(Statement::Insert {
+                table: *table,
+                row: row.copy(alloc)?,
+            }),
+            Statement::Delete { table, cond } => Ok(Statement::Delete {
+                table: *table,
+                cond: copy_cond(alloc, cond)?,
+            }),
+            Statement::Update { table, sets, cond } => Ok(Statement::Update {
+                table: *table,
+                sets: sets.copy(alloc)?,
+                cond: copy_cond(alloc, cond)?,
+            }),
             Statement::Check {
                 table,
                 chunk,
@@ -65,6 +110,9 @@ impl Statement {
         ensures { IsTrue result ↔ (self.now ≡ other.now) }
     {
         match self {
+            Statement::Insert { table, row } => other.is_insert(*table, row),
+            Statement::Delete { table, cond } => other.is_delete(*table, cond),
+            Statement::Update { table, sets, cond } => other.is_update(*table, sets, cond),
             Statement::Check {
                 table,
                 chunk,
@@ -78,6 +126,43 @@ impl Statement {
                 master,
             } => other.is_set_master(*table, *chunk, *kind, master),
             Statement::ClearChecks { table } => other.is_clear_checks(*table),
+        }
+    }
+
+    fn is_insert(&self, table: u32, row: &Row) -> bool
+        ensures { IsTrue result ↔ (self.now ≡ Statement.Insert table row.now) }
+    {
+        match self {
+            Statement::Insert {
+                table: own_table,
+                row: own_row,
+            } => *own_table == table && own_row.same(row),
+            _ => false,
+        }
+    }
+
+    fn is_delete(&self, table: u32, cond: &Option<Cond>) -> bool
+        ensures { IsTrue result ↔ (self.now ≡ Statement.Delete table cond.now) }
+    {
+        match self {
+            Statement::Delete {
+                table: own_table,
+                cond: own_cond,
+            } => *own_table == table && same_cond(own_cond, cond),
+            _ => false,
+        }
+    }
+
+    fn is_update(&self, table: u32, sets: &Sets, cond: &Option<Cond>) -> bool
+        ensures { IsTrue result ↔ (self.now ≡ Statement.Update table sets.now cond.now) }
+    {
+        match self {
+            Statement::Update {
+                table: own_table,
+                sets: own_sets,
+                cond: own_cond,
+            } => *own_table == table && own_sets.same(sets) && same_cond(own_cond, cond),
+            _ => false,
         }
     }
 
@@ -96,7 +181,7 @@ impl Statement {
                     && own_span.same(span)
                     && own_kind.same(&kind)
             }
-            Statement::SetMaster { .. } | Statement::ClearChecks { .. } => false,
+            _ => false,
         }
     }
 
@@ -115,7 +200,7 @@ impl Statement {
                     && own_kind.same(&kind)
                     && own_master.same(master)
             }
-            Statement::Check { .. } | Statement::ClearChecks { .. } => false,
+            _ => false,
         }
     }
 
@@ -124,7 +209,7 @@ impl Statement {
     {
         match self {
             Statement::ClearChecks { table: own_table } => *own_table == table,
-            Statement::Check { .. } | Statement::SetMaster { .. } => false,
+            _ => false,
         }
     }
 }

@@ -1,5 +1,6 @@
 use super::*;
-use row_types::Value;
+use ptc_statement::{Assignment, Cond, Expr, Op, ScriptStep, Sets, Statement};
+use row_types::{Row, Value};
 use std::test::*;
 
 const HEAD: &str = "PTC WORKLOAD 1\nREPLICAS 1\nTABLE t (id BIGINT KEY, v BIGINT)\n";
@@ -113,4 +114,146 @@ fn finds_a_bad_head(rt: HostRuntime) {
             Err(FileFault::Early { number: 3 })
         )
     );
+}
+
+/// The condition that the first column is this number.
+fn key_is(key: i64) -> Option<Cond> {
+    Some(Cond::Compare {
+        op: Op::Eq,
+        left: Expr::Cell(0),
+        right: Expr::Lit(Value::Int(key)),
+    })
+}
+
+fn insert(alloc: Global, key: i64, value: i64) -> Result<Statement, Fail> {
+    let mut items = Vec::new(alloc);
+    items.push(Value::Int(key))?;
+    items.push(Value::Int(value))?;
+    Ok(Statement::Insert {
+        table: 0,
+        row: Row { items },
+    })
+}
+
+fn update(alloc: Global, key: i64, value: i64) -> Result<Statement, Fail> {
+    let mut items = Vec::new(alloc);
+    items.push(Assignment {
+        column: 1,
+        expr: Expr::Lit(Value::Int(value)),
+    })?;
+    Ok(Statement::Update {
+        table: 0,
+        sets: Sets { items },
+        cond: key_is(key),
+    })
+}
+
+fn delete(key: i64) -> Statement {
+    Statement::Delete {
+        table: 0,
+        cond: key_is(key),
+    }
+}
+
+/// Whether the workload has one script, of these statements on lines from this one on.
+fn has_script(workload: &Workload, first: u32, wanted: &[Statement]) -> bool {
+    let [script] = workload.sessions.as_slice() else {
+        return false;
+    };
+    let lines = script.lines.as_slice();
+    if lines.len() != wanted.len() {
+        return false;
+    }
+    let mut number = first;
+    for (line, statement) in lines.iter().zip(wanted.iter()) {
+        let ScriptStep::Run(found) = &line.step;
+        if line.line != number || !found.same(statement) {
+            return false;
+        }
+        number = number.saturating_add(1);
+    }
+    true
+}
+
+#[test]
+fn reads_a_script(rt: HostRuntime) -> Result<(), Fail> {
+    let body =
+        "ROW * t (5, 0)\nSESSION s1\nINSERT INTO t VALUES (-9223372036854775808, 9223372036854775807)\nUPDATE t SET v = -9223372036854775808 WHERE id = 9223372036854775807\nDELETE FROM t WHERE id = -9223372036854775808\nDELETE FROM t WHERE id = 0\nEND\n";
+    let alloc = rt.alloc();
+    let mut wanted = Vec::new(alloc);
+    wanted.push(insert(alloc, i64::MIN, i64::MAX)?)?;
+    wanted.push(update(alloc, i64::MAX, i64::MIN)?)?;
+    wanted.push(delete(i64::MIN))?;
+    wanted.push(delete(0))?;
+    match read_body(&rt, body)? {
+        Err(_) => return Err(Fail::from("the script is read")),
+        Ok(workload) => assert!(rt; has_script(&workload, 6, wanted.as_slice())),
+    }
+    match read_body(&rt, "SESSION s1\nEND\n")? {
+        Err(_) => return Err(Fail::from("an empty script is read")),
+        Ok(workload) => assert!(rt; has_script(&workload, 5, &[])),
+    }
+    match read_body(&rt, "END\n")? {
+        Err(_) => return Err(Fail::from("no script is wanted")),
+        Ok(workload) => assert!(rt; workload.sessions.is_empty()),
+    }
+    Ok(())
+}
+
+#[test]
+fn finds_early_lines_of_a_script(rt: HostRuntime) -> Result<(), Fail> {
+    assert_eq!(rt; early_line(&rt, "SESSION s2\nEND\n")?, 4);
+    assert_eq!(rt; early_line(&rt, "SESSION s1 \nEND\n")?, 4);
+    assert_eq!(rt; early_line(&rt, "ROW * t (1, 2)\nSESSION\nEND\n")?, 5);
+    assert_eq!(rt; early_line(&rt, "SESSION s1")?, 4);
+    assert_eq!(rt; early_line(&rt, "SESSION s1\n")?, 5);
+    assert_eq!(rt; early_line(&rt, "SESSION s1\nSESSION s1\nEND\n")?, 5);
+    assert_eq!(rt; early_line(&rt, "SESSION s1\nROW * t (1, 2)\nEND\n")?, 5);
+    assert_eq!(rt;
+        early_line(&rt, "SESSION s1\nDELETE FROM t WHERE id = 1\n")?,
+        6
+    );
+    assert_eq!(rt;
+        early_line(&rt, "SESSION s1\nDELETE FROM t WHERE id = 1\nEND\n\n")?,
+        7
+    );
+    assert_eq!(rt; early_line(&rt, "DELETE FROM t WHERE id = 1\nEND\n")?, 4);
+    Ok(())
+}
+
+/// Each stands behind a ROW line, the session's line and one statement, as line 7.
+#[test]
+fn finds_early_statements(rt: HostRuntime) -> Result<(), Fail> {
+    for line in [
+        "INSERT INTO u VALUES (1, 2)",
+        "insert into t values (1, 2)",
+        "INSERT INTO t VALUES (1, 2) ",
+        "INSERT INTO t VALUES (007, 2)",
+        "INSERT INTO t VALUES (1, -0)",
+        "INSERT INTO t VALUES (1, 9223372036854775808)",
+        "INSERT INTO t VALUES (1,2)",
+        "INSERT INTO t VALUES (1)",
+        "UPDATE u SET v = 1 WHERE id = 2",
+        "UPDATE t SET v = 1 WHERE id = 007",
+        "UPDATE t SET v = 007 WHERE id = 2",
+        "UPDATE t SET v = 1 WHERE id = 2 ",
+        "UPDATE t SET v = 1 where id = 2",
+        "UPDATE t SET id = 1 WHERE id = 2",
+        "UPDATE t SET v = 1",
+        "UPDATE t SET v = 1  WHERE id = 2",
+        "DELETE FROM u WHERE id = 1",
+        "DELETE FROM t WHERE id = 1 ",
+        "DELETE FROM t WHERE id = +1",
+        "DELETE FROM t WHERE id = 007",
+        "DELETE FROM t WHERE id = 1\r",
+        "DELETE FROM t WHERE v = 1",
+        "DELETE FROM t",
+        "",
+    ] {
+        let body = format!(in rt.alloc();
+            "ROW * t (5, 0)\nSESSION s1\nDELETE FROM t WHERE id = 1\n{line}\nEND\n"
+        )?;
+        assert_eq!(rt; early_line(&rt, body.as_str())?, 7, "{line}");
+    }
+    Ok(())
 }

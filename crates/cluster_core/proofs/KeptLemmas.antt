@@ -1,0 +1,171 @@
+-- What the parts of a world keep over turns.
+use Rattle.std.proofs.Common.{◌≡◌, ℕ, suc, ◌+◌, ◌-◌, ◌<◌, ◌≤◌, map, List, [], ◌∷◌, ◌++◌, length, refl, ap, sym, ◌∙◌, subst, arith, Option, Some, None, Bool, true, false, cond}
+use Rattle.std.specs.Prelude.{slice_index_or, slice_set, option_map, option_and_then}
+use Rattle.std.specs.List.{AllByRecursion, slice_get}
+use Rattle.std.proofs.lemmas.List.{set-get_or}
+use Rattle.row_types.specs.declared.table_schema.Schema.{Schema}
+use Rattle.ptc_statement.specs.declared.statements.Statement.{Statement}
+use Rattle.ptc_statement.specs.declared.scripts.ScriptLine.{ScriptLine}
+use Rattle.ptc_statement.specs.declared.scripts.ScriptStep.{ScriptStep}
+use Rattle.ptc_statement.specs.declared.scripts.ScriptStep.TheVariants.{Run}
+use Rattle.ptc_statement.specs.Fits.{StatementFits, FitsSchemas}
+use Rattle.history.specs.declared.entries.Origin.{Origin}
+use Rattle.history.specs.declared.entries.Entry.{Entry}
+use Rattle.history.specs.Replay.{applied_of, applying}
+use Rattle.cluster_core.proofs.EachLemmas.{each_append, each_at}
+use Rattle.cluster_core.proofs.RunLemmas.{slice_get-within}
+use Rattle.cluster_core.specs.Node.{NodeView, logged}
+use Rattle.row_types.specs.declared.values.Value.{Value}
+use Rattle.ptc_statement.specs.declared.scripts.Script.{Script}
+use Rattle.cluster_core.specs.declared.workload.Workload.{Workload}
+use Rattle.cluster_core.specs.Workload.{StepFits, ScriptFits, IsWorkload}
+use Rattle.cluster_core.specs.World.{SessionView, WorldView, fresh, unstarted, session_turn, line_turn, step_done, line_logged, line_refused, is_duplicate, by_session, next_applied}
+use Rattle.cluster_core.specs.Sessions.{step_left, line_left}
+use Rattle.cluster_core.specs.Good.{IsOneFitting, StepsFit, HasSchemas}
+use Rattle.cluster_core.specs.Turns.{Takes}
+
+-- a statement that fits any schema fits these
+pub fits_all : (schemas : List Schema) (statement : Statement) → ((schema : Schema) → StatementFits schema statement) → FitsSchemas schemas statement
+fits_all schemas statement fits schema found = fits schema
+
+-- one more entry, of one statement
+pub log_more : (schemas : List Schema) (log new : List Entry) (origin : Origin) (statement : Statement)
+    → AllByRecursion (IsOneFitting schemas) log → FitsSchemas schemas statement
+    → new ≡ log ++ record { origin = origin; statements = statement ∷ [] } ∷ []
+    → AllByRecursion (IsOneFitting schemas) new
+log_more schemas log new origin statement all fits is =
+    subst (AllByRecursion (IsOneFitting schemas)) (sym is)
+    (each_append (IsOneFitting schemas) log (record { origin = origin; statements = statement ∷ [] } ∷ []) all (record { statement = statement; only = refl; fits = fits }, tt))
+
+-- what a session's turn keeps of the session and of the source
+pub record KeepsBoth (schemas : List Schema) (old new : SessionView) (source after : NodeView) : Type 0 where
+  pub script : new.script ≡ old.script
+  pub schemas_stay : after.schemas ≡ source.schemas
+  pub log : AllByRecursion (IsOneFitting schemas) after.history
+
+step_keeps : (schemas : List Schema) (session : ℕ) (view : SessionView) (line : ScriptLine) (step : ScriptStep) (source : NodeView)
+    → StepFits schemas step → AllByRecursion (IsOneFitting schemas) source.history
+    → KeepsBoth schemas view (step_left session view line step source).0 source (step_left session view line step source).1
+step_keeps schemas session view line (Run statement) source fits log =
+    let P : Bool → Type 0 = λ b. KeepsBoth schemas view
+    (cond {A = SessionView × NodeView} b (record view { next = view.next + 1; refused = view.refused ++ line.line ∷ [] }, source) (record view { next = view.next + 1 }, logged source (by_session session statement))).0
+    source
+    (cond {A = SessionView × NodeView} b (record view { next = view.next + 1; refused = view.refused ++ line.line ∷ [] }, source) (record view { next = view.next + 1 }, logged source (by_session session statement))).1 in
+    elim (is_duplicate source statement) as P [
+      | true ↦ record { script = refl; schemas_stay = refl; log = log }
+      | false ↦ record {
+        script = refl;
+        schemas_stay = refl;
+        log = each_append (IsOneFitting schemas) source.history (by_session session statement ∷ []) log (record { statement = statement; only = refl; fits = fits.1 }, tt);
+      }
+    ]
+
+turn_keeps_at : (schemas : List Schema) (session : ℕ) (view new : SessionView) (source after : NodeView) (moved : Bool) (found : Option ScriptLine)
+    → slice_get view.script view.next ≡ found
+    → StepsFit schemas view → AllByRecursion (IsOneFitting schemas) source.history
+    → Takes (option_map (λ (line : ScriptLine). step_left session view line line.step source) found) moved (view, source) (new, after)
+    → KeepsBoth schemas view new source after
+turn_keeps_at schemas session view new source after moved None found steps log takes =
+    let view_is : new ≡ view = ap (λ (p : SessionView × NodeView). p.0) takes.state in
+    let source_is : after ≡ source = ap (λ (p : SessionView × NodeView). p.1) takes.state in
+    record {
+      script = ap (λ (v : SessionView). v.script) view_is;
+      schemas_stay = ap (λ (n : NodeView). n.schemas) source_is;
+      log = subst (λ (n : NodeView). AllByRecursion (IsOneFitting schemas) n.history) (sym source_is) log;
+    }
+turn_keeps_at schemas session view new source after moved (Some line) found steps log takes =
+    let kept = step_keeps schemas session view line line.step source (each_at (λ (l : ScriptLine). StepFits schemas l.step) view.script view.next line steps found) log in
+    subst (λ (p : SessionView × NodeView). KeepsBoth schemas view p.0 source p.1) (sym takes.state) kept
+
+pub turn_keeps : (schemas : List Schema) (session : ℕ) (view new : SessionView) (source after : NodeView) (moved : Bool)
+    → StepsFit schemas view → AllByRecursion (IsOneFitting schemas) source.history
+    → Takes (line_left session view source) moved (view, source) (new, after)
+    → KeepsBoth schemas view new source after
+turn_keeps schemas session view new source after moved steps log takes =
+    turn_keeps_at schemas session view new source after moved (slice_get view.script view.next) refl steps log takes
+
+-- a session's turn in the world, from what it leaves of the session and the source
+step_is : (session : ℕ) (view : SessionView) (line : ScriptLine) (step : ScriptStep) (w : WorldView)
+    → step_done session view line step w
+    ≡ record w { source = (step_left session view line step w.source).1; sessions = slice_set w.sessions (session - 1) (step_left session view line step w.source).0 }
+step_is session view line (Run statement) w =
+    elim (is_duplicate w.source statement) as (λ b.
+    cond b (line_refused session view line w) (line_logged session view statement w)
+    ≡ record w {
+      source = (cond {A = SessionView × NodeView} b (record view { next = view.next + 1; refused = view.refused ++ line.line ∷ [] }, w.source) (record view { next = view.next + 1 }, logged w.source (by_session session statement))).1;
+      sessions = slice_set w.sessions (session - 1) (cond {A = SessionView × NodeView} b (record view { next = view.next + 1; refused = view.refused ++ line.line ∷ [] }, w.source) (record view { next = view.next + 1 }, logged w.source (by_session session statement))).0;
+    })
+    [ true ↦ refl | false ↦ refl ]
+
+line_takes : (w : WorldView) (session : ℕ) (view new : SessionView) (after : NodeView) (moved : Bool) (found : Option ScriptLine)
+    → slice_set w.sessions (session - 1) view ≡ w.sessions
+    → Takes (option_map (λ (line : ScriptLine). step_left session view line line.step w.source) found) moved (view, w.source) (new, after)
+    → Takes (option_map (λ (line : ScriptLine). step_done session view line line.step w) found) moved w (record w { source = after; sessions = slice_set w.sessions (session - 1) new })
+line_takes w session view new after moved None stays takes =
+    let P : SessionView × NodeView → Type 0 = λ p. record w { source = p.1; sessions = slice_set w.sessions (session - 1) p.0 } ≡ w in
+    record {
+      did = takes.did;
+      state = subst P (sym takes.state) (ap (λ (vs : List SessionView). record w { sessions = vs }) stays);
+    }
+line_takes w session view new after moved (Some line) stays takes =
+    let P : SessionView × NodeView → Type 0 = λ p. record w { source = p.1; sessions = slice_set w.sessions (session - 1) p.0 } ≡ step_done session view line line.step w in
+    record {
+      did = takes.did;
+      state = subst P (sym takes.state) (sym (step_is session view line line.step w));
+    }
+
+pub session_takes : (w : WorldView) (session : ℕ) (view new : SessionView) (after : NodeView) (moved : Bool)
+    → session - 1 < length w.sessions
+    → view ≡ slice_index_or w.sessions (session - 1) view
+    → Takes (line_left session view w.source) moved (view, w.source) (new, after)
+    → Takes (session_turn session w) moved w (record w { source = after; sessions = slice_set w.sessions (session - 1) new })
+session_takes w session view new after moved within is takes =
+    let found : slice_get w.sessions (session - 1) ≡ Some view = slice_get-within w.sessions (session - 1) view within ∙ ap (λ (v : SessionView). Some v) (sym is) in
+    let stays : slice_set w.sessions (session - 1) view ≡ w.sessions = ap (slice_set w.sessions (session - 1)) is ∙ set-get_or w.sessions (session - 1) view in
+    let P : Option SessionView → Type 0 = λ o. Takes (option_and_then (λ (v : SessionView). line_turn session v w) o) moved w (record w { source = after; sessions = slice_set w.sessions (session - 1) new }) in
+    subst P (sym found) (line_takes w session view new after moved (slice_get view.script view.next) stays takes)
+
+-- a node that applied an entry has the schemas that it had
+applied_at : (node : NodeView) (found : Option Entry) (moved : Bool) (new : NodeView)
+    → Takes (option_and_then (λ entry. Some (logged node (applying (applied_of node.history + 1) entry))) found) moved node new
+    → new.schemas ≡ node.schemas
+applied_at node None moved new takes = ap (λ (n : NodeView). n.schemas) takes.state
+applied_at node (Some entry) moved new takes = ap (λ (n : NodeView). n.schemas) takes.state
+
+pub applied_keeps : (log : List Entry) (node new : NodeView) (moved : Bool) → Takes (next_applied log node) moved node new → new.schemas ≡ node.schemas
+applied_keeps log node new moved takes = applied_at node (slice_get log (applied_of node.history)) moved new takes
+
+pub same_schemas : (schemas others : List Schema) (entries : List Entry) → others ≡ schemas → AllByRecursion (IsOneFitting schemas) entries → AllByRecursion (IsOneFitting others) entries
+same_schemas schemas others entries same all = subst (λ (s : List Schema). AllByRecursion (IsOneFitting s) entries) (sym same) all
+
+-- the parts of a new world
+begun_nodes : (schemas : List Schema) (copies : List (List (List (List Value)))) → AllByRecursion (HasSchemas schemas) (map (fresh schemas) copies)
+begun_nodes schemas [] = tt
+begun_nodes schemas (tables ∷ copies) = (refl, begun_nodes schemas copies)
+
+begun_sessions : (schemas : List Schema) (scripts : List Script) → AllByRecursion (ScriptFits schemas) scripts → AllByRecursion (StepsFit schemas) (map unstarted scripts)
+begun_sessions schemas [] fit = tt
+begun_sessions schemas (script ∷ scripts) fit = (fit.0.steps, begun_sessions schemas scripts fit.1)
+
+length_map : {A B : Type 0} (f : A → B) (xs : List A) → length (map f xs) ≡ length xs
+length_map f [] = refl
+length_map f (x ∷ xs) = ap suc (length_map f xs)
+
+pub record KeptParts (source : NodeView) (replicas : List NodeView) (sessions : List SessionView) : Type 0 where
+  pub tables : length source.schemas ≤ 16
+  pub few_replicas : length replicas ≤ 8
+  pub few_sessions : length sessions ≤ 64
+  pub same : AllByRecursion (HasSchemas source.schemas) replicas
+  pub log : AllByRecursion (IsOneFitting source.schemas) source.history
+  pub scripts : AllByRecursion (StepsFit source.schemas) sessions
+
+pub begun_parts : (workload : Workload) → IsWorkload workload
+    → KeptParts (fresh workload.schemas.tables workload.source) (map (fresh workload.schemas.tables) workload.copies) (map unstarted workload.sessions)
+begun_parts workload is = record {
+  tables = is.most_tables;
+  few_replicas = omega (arith, length_map (fresh workload.schemas.tables) workload.copies, is.each_copied, is.most_replicas);
+  few_sessions = omega (arith, length_map unstarted workload.sessions, is.most_sessions);
+  same = begun_nodes workload.schemas.tables workload.copies;
+  log = tt;
+  scripts = begun_sessions workload.schemas.tables workload.sessions is.scripts;
+}

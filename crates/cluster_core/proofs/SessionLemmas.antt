@@ -1,0 +1,335 @@
+-- What a session did of its script so far, and that its entries of the log are its own calls.
+use Rattle.std.proofs.Common.{◌≡◌, ◌≢◌, ℕ, zero, suc, ◌+◌, ◌-◌, ◌<◌, ◌≤◌, ◌==◌, ◌||◌, Bool, true, false, cond, List, [], ◌∷◌, ◌++◌, length, map, Option, None, Some, refl, ap, ◌∙◌, sym, subst, arith, append_assoc, length-append}
+use Rattle.std.specs.Prelude.{slice_set, filter, option_map, option_and_then}
+use Rattle.std.specs.List.{AllByRecursion, slice_get}
+use Rattle.std.proofs.lemmas.List.{append-nil, map-append}
+use Rattle.std.proofs.lemmas.List.Elements.{filter-append}
+use Rattle.std.proofs.lemmas.Bool.Decides.{nat_tests}
+use Rattle.row_types.specs.declared.table_schema.Schema.{Schema}
+use Rattle.ptc_statement.specs.declared.statements.Statement.{Statement}
+use Rattle.ptc_statement.specs.declared.scripts.Script.{Script}
+use Rattle.ptc_statement.specs.declared.scripts.ScriptLine.{ScriptLine}
+use Rattle.ptc_statement.specs.declared.scripts.ScriptStep.{ScriptStep}
+use Rattle.ptc_statement.specs.declared.scripts.ScriptStep.TheVariants.{Run}
+use Rattle.history.specs.declared.entries.Entry.{Entry}
+use Rattle.cluster_core.specs.World.{SessionView, WorldView, unstarted, step_done, line_turn, sessions_from, turn}
+use Rattle.cluster_core.specs.Headline.{is_among, step_call, calls_of, is_by, logged_by, OwnCalls, EachOwnCalls}
+use Rattle.cluster_core.specs.Workload.{StepFits, LinesRise, ScriptFits}
+use Rattle.cluster_core.proofs.EachLemmas.{each_both, each_append, each_always, LastFrom, last_first, last_more}
+
+abbrev pub NumbersBelow : ℕ → List ℕ → Type 0
+NumbersBelow bound numbers = AllByRecursion (λ number. number < bound) numbers
+
+abbrev pub LinesBelow : ℕ → List ScriptLine → Type 0
+LinesBelow bound lines = AllByRecursion (λ (line : ScriptLine). line.line < bound) lines
+
+-- each statement as an entry's
+abbrev pub singly : List Statement → List (List Statement)
+singly statements = map (λ (statement : Statement). statement ∷ []) statements
+
+-- a session did its script's first lines, and logged those that were not refused; the lines left fit,
+-- and their numbers rise above those of the others
+pub record SessionHolds (schemas : List Schema) (entries : List (List Statement)) (view : SessionView) : Type 0 where
+  pub done : List ScriptLine
+  pub rest : List ScriptLine
+  pub script : view.script ≡ done ++ rest
+  pub counted : view.next ≡ length done
+  pub calls : entries ≡ singly (calls_of view.refused done)
+  pub fits : AllByRecursion (λ (line : ScriptLine). StepFits schemas line.step) rest
+  pub rise : LinesRise rest
+  pub above_done : AllByRecursion (λ (line : ScriptLine). LinesBelow line.line done) rest
+  pub above_refused : AllByRecursion (λ (line : ScriptLine). NumbersBelow line.line view.refused) rest
+
+-- the lines that were refused
+different : (a b : ℕ) → a < b → (a == b) ≡ false
+different a b less = grind (arith, nat_tests)
+
+differs_from : (a b : ℕ) → a < b → (b == a) ≡ false
+differs_from a b less = grind (arith, nat_tests)
+
+itself : (a : ℕ) → (a == a) ≡ true
+itself a = grind (arith, nat_tests)
+
+or_true : (b : Bool) → (b || true) ≡ true
+or_true true = refl
+or_true false = refl
+
+not_among : (line : ℕ) (refused : List ℕ) → NumbersBelow line refused → is_among line refused ≡ false
+not_among line [] below = refl
+not_among line (number ∷ refused) below = ap (λ b. b || is_among line refused) (different number line below.0) ∙ not_among line refused below.1
+
+among_more : (line new : ℕ) (refused : List ℕ) → line < new → is_among line (refused ++ new ∷ []) ≡ is_among line refused
+among_more line new [] less = ap (λ b. b || false) (differs_from line new less)
+among_more line new (number ∷ refused) less = ap (λ b. (number == line) || b) (among_more line new refused less)
+
+now_among : (line : ℕ) (refused : List ℕ) → is_among line (refused ++ line ∷ []) ≡ true
+now_among line [] = ap (λ b. b || false) (itself line)
+now_among line (number ∷ refused) = ap (λ b. (number == line) || b) (now_among line refused) ∙ or_true (number == line)
+
+-- the calls of the lines that are done
+calls_same : (new : ℕ) (refused : List ℕ) (lines : List ScriptLine) → LinesBelow new lines → calls_of (refused ++ new ∷ []) lines ≡ calls_of refused lines
+calls_same new refused [] below = refl
+calls_same new refused (line ∷ lines) below =
+    ap (λ b. step_call line.step b (calls_of (refused ++ new ∷ []) lines)) (among_more line.line new refused below.0)
+    ∙ ap (step_call line.step (is_among line.line refused)) (calls_same new refused lines below.1)
+
+step_call-append : (step : ScriptStep) (refused : Bool) (calls more : List Statement) → step_call step refused (calls ++ more) ≡ step_call step refused calls ++ more
+step_call-append (Run statement) true calls more = refl
+step_call-append (Run statement) false calls more = refl
+
+calls_more : (refused : List ℕ) (lines : List ScriptLine) (line : ScriptLine)
+    → calls_of refused (lines ++ line ∷ []) ≡ calls_of refused lines ++ step_call line.step (is_among line.line refused) []
+calls_more refused [] line = refl
+calls_more refused (first ∷ lines) line =
+    ap (step_call first.step (is_among first.line refused)) (calls_more refused lines line)
+    ∙ step_call-append first.step (is_among first.line refused) (calls_of refused lines) (step_call line.step (is_among line.line refused) [])
+
+step_logged : (step : ScriptStep) (refused : Bool) (statement : Statement) → step ≡ Run statement → refused ≡ false → step_call step refused [] ≡ statement ∷ []
+step_logged step refused statement is kept = ap (λ s. step_call s refused []) is ∙ ap (λ b. cond b [] (statement ∷ [])) kept
+
+step_refused : (step : ScriptStep) (refused : Bool) → refused ≡ true → step_call step refused [] ≡ []
+step_refused (Run statement) true is = refl
+step_refused (Run statement) false is = absurd (cc)
+
+-- the entries of a session, with one more in the log
+logged_by_next : (session : ℕ) (log : List Entry) (entry : Entry)
+    → logged_by session (log ++ entry ∷ []) ≡ logged_by session log ++ map (λ (e : Entry). e.statements) (cond (is_by session entry.origin) (entry ∷ []) [])
+logged_by_next session log entry =
+    ap (map (λ (e : Entry). e.statements)) (filter-append (λ (e : Entry). is_by session e.origin) log (entry ∷ []))
+    ∙ map-append (λ (e : Entry). e.statements) (filter (λ (e : Entry). is_by session e.origin) log) (filter (λ (e : Entry). is_by session e.origin) (entry ∷ []))
+
+pub logged_by_own : (session : ℕ) (log : List Entry) (entry : Entry) → is_by session entry.origin ≡ true
+    → logged_by session (log ++ entry ∷ []) ≡ logged_by session log ++ entry.statements ∷ []
+logged_by_own session log entry own =
+    logged_by_next session log entry
+    ∙ ap (λ b. logged_by session log ++ map (λ (e : Entry). e.statements) (cond b (entry ∷ []) [])) own
+
+pub logged_by_other : (session : ℕ) (log : List Entry) (entry : Entry) → is_by session entry.origin ≡ false
+    → logged_by session (log ++ entry ∷ []) ≡ logged_by session log
+logged_by_other session log entry other =
+    logged_by_next session log entry
+    ∙ ap (λ b. logged_by session log ++ map (λ (e : Entry). e.statements) (cond b (entry ∷ []) [])) other
+    ∙ append-nil (logged_by session log)
+
+pub own_number : (session : ℕ) → (session == session) ≡ true
+own_number session = itself session
+
+pub other_number : (session other : ℕ) → session ≢ other → (other == session) ≡ false
+other_number session other not = grind (arith, nat_tests)
+
+-- a session's next line
+next_line_at : (done rest : List ScriptLine) (line : ScriptLine) → slice_get (done ++ rest) (length done) ≡ Some line → (more : List ScriptLine) × (rest ≡ line ∷ more)
+next_line_at [] [] line is = absurd (cc)
+next_line_at [] (first ∷ more) line is =
+    let same : first ≡ line = cc in
+    (more, ap (λ (l : ScriptLine). l ∷ more) same)
+next_line_at (first ∷ done) rest line is = next_line_at done rest line is
+
+pub record NextLine (schemas : List Schema) (view : SessionView) (done rest : List ScriptLine) (line : ScriptLine) : Type 0 where
+  pub more : List ScriptLine
+  pub is : rest ≡ line ∷ more
+  pub fits : StepFits schemas line.step
+  pub more_fit : AllByRecursion (λ (later : ScriptLine). StepFits schemas later.step) more
+  pub more_later : AllByRecursion (λ (later : ScriptLine). line.line < later.line) more
+  pub more_rise : LinesRise more
+  pub above_done : LinesBelow line.line done
+  pub more_above_done : AllByRecursion (λ (later : ScriptLine). LinesBelow later.line done) more
+  pub above_refused : NumbersBelow line.line view.refused
+  pub more_above_refused : AllByRecursion (λ (later : ScriptLine). NumbersBelow later.line view.refused) more
+
+pub next_line : (schemas : List Schema) (entries : List (List Statement)) (view : SessionView) (line : ScriptLine)
+    → (holds : SessionHolds schemas entries view)
+    → slice_get view.script view.next ≡ Some line
+    → NextLine schemas view holds.done holds.rest line
+next_line schemas entries view line holds at =
+    let there : slice_get (holds.done ++ holds.rest) (length holds.done) ≡ Some line =
+    ap (λ (lines : List ScriptLine). slice_get lines (length holds.done)) (sym holds.script) ∙ ap (slice_get view.script) (sym holds.counted) ∙ at in
+    let next = next_line_at holds.done holds.rest line there in
+    let fits : AllByRecursion (λ (l : ScriptLine). StepFits schemas l.step) (line ∷ next.0) = subst (AllByRecursion (λ (l : ScriptLine). StepFits schemas l.step)) next.1 holds.fits in
+    let rise : LinesRise (line ∷ next.0) = subst LinesRise next.1 holds.rise in
+    let above_done : AllByRecursion (λ (l : ScriptLine). LinesBelow l.line holds.done) (line ∷ next.0) =
+    subst (AllByRecursion (λ (l : ScriptLine). LinesBelow l.line holds.done)) next.1 holds.above_done in
+    let above_refused : AllByRecursion (λ (l : ScriptLine). NumbersBelow l.line view.refused) (line ∷ next.0) =
+    subst (AllByRecursion (λ (l : ScriptLine). NumbersBelow l.line view.refused)) next.1 holds.above_refused in
+    record {
+      more = next.0;
+      is = next.1;
+      fits = fits.0;
+      more_fit = fits.1;
+      more_later = rise.0;
+      more_rise = rise.1;
+      above_done = above_done.0;
+      more_above_done = above_done.1;
+      above_refused = above_refused.0;
+      more_above_refused = above_refused.1;
+    }
+
+-- a session did its next line
+session_does : (schemas : List Schema) (entries now : List (List Statement)) (view : SessionView) (refused : List ℕ) (line : ScriptLine)
+    → (holds : SessionHolds schemas entries view)
+    → (next : NextLine schemas view holds.done holds.rest line)
+    → now ≡ singly (calls_of refused (holds.done ++ line ∷ []))
+    → AllByRecursion (λ (later : ScriptLine). NumbersBelow later.line refused) next.more
+    → SessionHolds schemas now (record view { next = view.next + 1; refused = refused })
+session_does schemas entries now view refused line holds next calls above = record {
+  done = holds.done ++ line ∷ [];
+  rest = next.more;
+  script = holds.script ∙ ap (λ (lines : List ScriptLine). holds.done ++ lines) next.is ∙ sym (append_assoc holds.done (line ∷ []) next.more);
+  counted = ap (λ n. n + 1) holds.counted ∙ sym (length-append holds.done (line ∷ []));
+  calls = calls;
+  fits = next.more_fit;
+  rise = next.more_rise;
+  above_done = each_both
+      (λ (later : ScriptLine). LinesBelow later.line holds.done)
+      (λ (later : ScriptLine). line.line < later.line)
+      (λ (later : ScriptLine). LinesBelow later.line (holds.done ++ line ∷ []))
+      next.more
+      (λ later below less. each_append (λ (l : ScriptLine). l.line < later.line) holds.done (line ∷ []) below (less, tt))
+      next.more_above_done next.more_later;
+  above_refused = above;
+}
+
+pub session_logged : (schemas : List Schema) (entries : List (List Statement)) (view : SessionView) (line : ScriptLine) (statement : Statement)
+    → SessionHolds schemas entries view
+    → slice_get view.script view.next ≡ Some line
+    → line.step ≡ Run statement
+    → SessionHolds schemas (entries ++ (statement ∷ []) ∷ []) (record view { next = view.next + 1 })
+session_logged schemas entries view line statement holds at step =
+    let next = next_line schemas entries view line holds at in
+    let one : step_call line.step (is_among line.line view.refused) [] ≡ statement ∷ [] =
+    step_logged line.step (is_among line.line view.refused) statement step (not_among line.line view.refused next.above_refused) in
+    let calls : calls_of view.refused (holds.done ++ line ∷ []) ≡ calls_of view.refused holds.done ++ statement ∷ [] =
+    calls_more view.refused holds.done line ∙ ap (λ (more : List Statement). calls_of view.refused holds.done ++ more) one in
+    session_does schemas entries (entries ++ (statement ∷ []) ∷ []) view view.refused line holds next
+    (ap (λ (before : List (List Statement)). before ++ (statement ∷ []) ∷ []) holds.calls
+    ∙ sym (map-append (λ (s : Statement). s ∷ []) (calls_of view.refused holds.done) (statement ∷ []))
+    ∙ ap singly (sym calls))
+    next.more_above_refused
+
+pub session_refused : (schemas : List Schema) (entries : List (List Statement)) (view : SessionView) (line : ScriptLine)
+    → SessionHolds schemas entries view
+    → slice_get view.script view.next ≡ Some line
+    → SessionHolds schemas entries (record view { next = view.next + 1; refused = view.refused ++ line.line ∷ [] })
+session_refused schemas entries view line holds at =
+    let next = next_line schemas entries view line holds at in
+    let refused : List ℕ = view.refused ++ line.line ∷ [] in
+    let none : step_call line.step (is_among line.line refused) [] ≡ [] =
+    step_refused line.step (is_among line.line refused) (now_among line.line view.refused) in
+    let calls : calls_of refused (holds.done ++ line ∷ []) ≡ calls_of view.refused holds.done =
+    calls_more refused holds.done line
+    ∙ ap (λ (more : List Statement). calls_of refused holds.done ++ more) none
+    ∙ append-nil (calls_of refused holds.done)
+    ∙ calls_same line.line view.refused holds.done next.above_done in
+    session_does schemas entries entries view refused line holds next
+    (holds.calls ∙ ap singly (sym calls))
+    (each_both
+    (λ (later : ScriptLine). NumbersBelow later.line view.refused)
+    (λ (later : ScriptLine). line.line < later.line)
+    (λ (later : ScriptLine). NumbersBelow later.line refused)
+    next.more
+    (λ later below less. each_append (λ number. number < later.line) view.refused (line.line ∷ []) below (less, tt))
+    next.more_above_refused next.more_later)
+
+-- the sessions, of which the first has this number
+abbrev pub EachSession : List Schema → List Entry → ℕ → List SessionView → Type 0
+EachSession schemas log number [] = Unit {0}
+EachSession schemas log number (view ∷ views) = SessionHolds schemas (logged_by number log) view × EachSession schemas log (number + 1) views
+
+pub sessions_begun : (schemas : List Schema) (number : ℕ) (scripts : List Script) → AllByRecursion (ScriptFits schemas) scripts → EachSession schemas [] number (map unstarted scripts)
+sessions_begun schemas number [] fit = tt
+sessions_begun schemas number (script ∷ scripts) fit = (
+  record {
+    done = [];
+    rest = script.lines;
+    script = refl;
+    counted = refl;
+    calls = refl;
+    fits = fit.0.steps;
+    rise = fit.0.numbers;
+    above_done = each_always (λ (line : ScriptLine). LinesBelow line.line []) script.lines (λ line. tt);
+    above_refused = each_always (λ (line : ScriptLine). NumbersBelow line.line []) script.lines (λ line. tt);
+  },
+  sessions_begun schemas (number + 1) scripts fit.1,
+)
+
+pub sessions_at : (schemas : List Schema) (log : List Entry) (number place session : ℕ) (views : List SessionView) (view : SessionView)
+    → session ≡ place + number
+    → slice_get views place ≡ Some view
+    → EachSession schemas log number views
+    → SessionHolds schemas (logged_by session log) view
+sessions_at schemas log number place session [] view is found each = absurd (cc)
+sessions_at schemas log number zero session (first ∷ views) view is found each =
+    let same : first ≡ view = cc in
+    let at : number ≡ session = omega arith in
+    subst (λ s. SessionHolds schemas (logged_by s log) view) at (subst (SessionHolds schemas (logged_by number log)) same each.0)
+sessions_at schemas log number (suc place) session (first ∷ views) view is found each =
+    sessions_at schemas log (number + 1) place session views view (omega arith) found each.1
+
+-- a log that has the same entries of these sessions
+pub sessions_kept : (schemas : List Schema) (log new : List Entry) (number : ℕ) (views : List SessionView)
+    → ((session : ℕ) → number ≤ session → logged_by session new ≡ logged_by session log)
+    → EachSession schemas log number views
+    → EachSession schemas new number views
+sessions_kept schemas log new number [] same each = tt
+sessions_kept schemas log new number (view ∷ views) same each = (
+  subst (λ (entries : List (List Statement)). SessionHolds schemas entries view) (sym (same number (omega arith))) each.0,
+  sessions_kept schemas log new (number + 1) views (λ session least. same session (omega arith)) each.1,
+)
+
+-- one session did a line
+pub sessions_set : (schemas : List Schema) (log new : List Entry) (number place session : ℕ) (views : List SessionView) (view now : SessionView)
+    → session ≡ place + number
+    → slice_get views place ≡ Some view
+    → ((other : ℕ) → other ≢ session → logged_by other new ≡ logged_by other log)
+    → SessionHolds schemas (logged_by session new) now
+    → EachSession schemas log number views
+    → EachSession schemas new number (slice_set views place now)
+sessions_set schemas log new number place session [] view now is found same holds each = tt
+sessions_set schemas log new number zero session (first ∷ views) view now is found same holds each =
+    let at : session ≡ number = omega arith in (
+      subst (λ s. SessionHolds schemas (logged_by s new) now) at holds,
+      sessions_kept schemas log new (number + 1) views (λ other least. same other (λ no. omega arith)) each.1,
+    )
+sessions_set schemas log new number (suc place) session (first ∷ views) view now is found same holds each =
+    let kept : logged_by number log ≡ logged_by number new = sym (same number (λ no. omega arith)) in (
+      subst (λ (entries : List (List Statement)). SessionHolds schemas entries first) kept each.0,
+      sessions_set schemas log new (number + 1) place session views view now (omega arith) found same holds each.1,
+    )
+
+-- where a session can't move, it is through its script
+none_left : (done rest : List ScriptLine) → slice_get (done ++ rest) (length done) ≡ None → rest ≡ []
+none_left [] [] is = refl
+none_left [] (line ∷ rest) is = absurd (cc)
+none_left (first ∷ done) rest is = none_left done rest is
+
+pub session_ended : (schemas : List Schema) (log : List Entry) (session : ℕ) (view : SessionView)
+    → SessionHolds schemas (logged_by session log) view
+    → slice_get view.script view.next ≡ None
+    → OwnCalls log session view
+session_ended schemas log session view holds none =
+    let there : slice_get (holds.done ++ holds.rest) (length holds.done) ≡ None =
+    ap (λ (lines : List ScriptLine). slice_get lines (length holds.done)) (sym holds.script) ∙ ap (slice_get view.script) (sym holds.counted) ∙ none in
+    let all : view.script ≡ holds.done =
+    holds.script ∙ ap (λ (lines : List ScriptLine). holds.done ++ lines) (none_left holds.done holds.rest there) ∙ append-nil holds.done in
+    record {
+      through = holds.counted ∙ ap length (sym all);
+      calls = holds.calls ∙ ap (λ (lines : List ScriptLine). singly (calls_of view.refused lines)) (sym all);
+    }
+
+no_line : (session : ℕ) (view : SessionView) (w : WorldView) (next : Option ScriptLine)
+    → option_map (λ (line : ScriptLine). step_done session view line line.step w) next ≡ None → next ≡ None
+no_line session view w None is = refl
+no_line session view w (Some line) is = absurd (cc)
+
+pub sessions_ended : (w : WorldView) (schemas : List Schema) (number : ℕ) (views : List SessionView)
+    → LastFrom w.sessions number views
+    → EachSession schemas w.source.history number views
+    → AllByRecursion (λ actor. turn actor w ≡ None) (sessions_from number views)
+    → EachOwnCalls w.source.history number views
+sessions_ended w schemas number [] last each still = tt
+sessions_ended w schemas number (view ∷ views) last each still =
+    let found : slice_get w.sessions (number - 1) ≡ Some view = last_first w.sessions number view views last in
+    let none : line_turn number view w ≡ None = ap (option_and_then (λ (v : SessionView). line_turn number v w)) (sym found) ∙ still.0 in (
+      session_ended schemas w.source.history number view each.0 (no_line number view w (slice_get view.script view.next) none),
+      sessions_ended w schemas (number + 1) views (last_more w.sessions number view views last) each.1 still.1,
+    )

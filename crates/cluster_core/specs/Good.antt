@@ -1,0 +1,24 @@
+-- Statements that nodes can do: those of scripts, and those that a log holds.
+use Rattle.std.specs.Prelude.{◌≡◌, List, [], ◌∷◌}
+use Rattle.std.specs.List.{AllByRecursion}
+use Rattle.row_types.specs.declared.table_schema.Schema.{Schema}
+use Rattle.ptc_statement.specs.declared.statements.Statement.{Statement}
+use Rattle.ptc_statement.specs.declared.scripts.ScriptLine.{ScriptLine}
+use Rattle.ptc_statement.specs.Fits.{FitsSchemas}
+use Rattle.history.specs.declared.entries.Entry.{Entry}
+use Rattle.cluster_core.specs.Node.{NodeView}
+use Rattle.cluster_core.specs.Workload.{StepFits}
+use Rattle.cluster_core.specs.World.{SessionView}
+
+-- an entry of one statement, which fits
+pub record IsOneFitting (schemas : List Schema) (entry : Entry) : Type 0 where
+  pub statement : Statement
+  pub only : entry.statements ≡ statement ∷ []
+  pub fits : FitsSchemas schemas statement
+
+-- each step of a session's script fits
+abbrev pub StepsFit : List Schema → SessionView → Type 0
+StepsFit schemas view = AllByRecursion (λ (line : ScriptLine). StepFits schemas line.step) view.script
+
+abbrev pub HasSchemas : List Schema → NodeView → Type 0
+HasSchemas schemas node = node.schemas ≡ schemas

@@ -1,0 +1,268 @@
+-- A statement that fits leaves a table of a table.
+use Rattle.std.proofs.Common.{◌≡◌, ◌∙◌, ℕ, zero, suc, ◌≤◌, Bool, true, false, cond, Option, Some, None, List, [], ◌∷◌, length, take, refl, ap, sym, subst, arith, slice_get, ℤ, pos, negsuc}
+use Rattle.std.specs.Prelude.{slice_index_or, slice_set, FitsSigned}
+use Rattle.std.specs.Int.{w32, w64, saturate_signed}
+use Rattle.std.specs.List.{AllByRecursion}
+use Rattle.std.specs.Option.{option_map_or}
+use Rattle.std.specs.Ordering.{match_ordering}
+use Rattle.std.specs.declared.cmp.Ordering.{Ordering}
+use Rattle.std.specs.declared.cmp.Ordering.TheVariants.{Less, Equal, Greater}
+use Rattle.row_types.specs.declared.values.Value.{Value}
+use Rattle.row_types.specs.declared.values.Value.TheVariants.{Null, Int, Text}
+use Rattle.row_types.specs.declared.table_schema.ColumnKind.{ColumnKind}
+use Rattle.row_types.specs.declared.table_schema.ColumnKind.TheVariants.{Int as IntColumn, BigInt, Text as TextColumn}
+use Rattle.row_types.specs.declared.table_schema.Column.{Column}
+use Rattle.row_types.specs.declared.table_schema.Schema.{Schema}
+use Rattle.row_types.specs.Order.{key_cmp, has}
+use Rattle.row_types.specs.Fit.{key_of, NumberFits, TextFits, ValueFits, ValuesFit, RowFits, IsBelowAll, IsTable, IsSchema}
+use Rattle.row_types.proofs.OrderLemmas.{key_below, key_turns_back}
+use Rattle.ptc_statement.specs.declared.expressions.Expr.{Expr}
+use Rattle.ptc_statement.specs.declared.expressions.Expr.TheVariants.{Lit, Cell}
+use Rattle.ptc_statement.specs.declared.expressions.Assignment.{Assignment}
+use Rattle.ptc_statement.specs.declared.statements.Statement.{Statement}
+use Rattle.ptc_statement.specs.declared.statements.Statement.TheVariants.{Insert, Delete, Update, Check, SetMaster, ClearChecks}
+use Rattle.ptc_statement.specs.Effect.{value_of, empty_of, clipped, cut, stored, assigned, after_sets, is_taken, reach_of, effect, effect_within, changed, with_front, with_new_row, rows_after}
+use Rattle.ptc_statement.specs.Fits.{IsOfKind, AreOfOneKind, ExprFits, AssignmentFits, StatementFits}
+use Rattle.ptc_statement.specs.Planned.{IsRising}
+
+-- a number that is clipped fits
+saturated_32 : (n : ℤ) → FitsSigned w32 (saturate_signed w32 n)
+saturated_32 (pos n) = omega arith
+saturated_32 (negsuc n) = omega arith
+
+saturated_64 : (n : ℤ) → FitsSigned w64 (saturate_signed w64 n)
+saturated_64 (pos n) = omega arith
+saturated_64 (negsuc n) = omega arith
+
+clipped_fits : (kind : ColumnKind) (n : ℤ) → IsOfKind kind (Int n) → NumberFits kind (clipped kind n)
+clipped_fits IntColumn n of = saturated_32 n
+clipped_fits BigInt n of = saturated_64 n
+clipped_fits (TextColumn max) n of = absurd of
+
+take_bound : (count : ℕ) (text : List ℕ) → length (take count text) ≤ count
+take_bound zero text = omega arith
+take_bound (suc count) [] = omega arith
+take_bound (suc count) (byte ∷ text) = let shorter = take_bound count text in omega arith
+
+cut_fits : (kind : ColumnKind) (text : List ℕ) → IsOfKind kind (Text text) → TextFits kind (cut kind text)
+cut_fits IntColumn text of = absurd of
+cut_fits BigInt text of = absurd of
+cut_fits (TextColumn max) text of = take_bound max text
+
+empty_fits : (column : Column) (kind : ColumnKind) → column.kind ≡ kind → ValueFits column (empty_of kind)
+empty_fits column IntColumn is = subst (λ (k : ColumnKind). NumberFits k (pos 0)) (sym is) (omega arith)
+empty_fits column BigInt is = subst (λ (k : ColumnKind). NumberFits k (pos 0)) (sym is) (omega arith)
+empty_fits column (TextColumn max) is = subst (λ (k : ColumnKind). TextFits k []) (sym is) (omega arith)
+
+null_fits : (column : Column) (nullable : Bool) → column.nullable ≡ nullable → ValueFits column (cond nullable Null (empty_of column.kind))
+null_fits column true is = is
+null_fits column false is = empty_fits column column.kind refl
+
+-- what a column keeps fits it
+stored_fits : (column : Column) (value : Value) → IsOfKind column.kind value → ValueFits column (stored column value)
+stored_fits column Null of = null_fits column column.nullable refl
+stored_fits column (Int n) of = clipped_fits column.kind n of
+stored_fits column (Text text) of = cut_fits column.kind text of
+
+null_of_kind : (kind : ColumnKind) → IsOfKind kind Null
+null_of_kind IntColumn = tt
+null_of_kind BigInt = tt
+null_of_kind (TextColumn max) = tt
+
+number_of_kind : (kind other : ColumnKind) (n : ℤ) → AreOfOneKind kind other → NumberFits other n → IsOfKind kind (Int n)
+number_of_kind IntColumn other n same fits = tt
+number_of_kind BigInt other n same fits = tt
+number_of_kind (TextColumn max) IntColumn n same fits = absurd same
+number_of_kind (TextColumn max) BigInt n same fits = absurd same
+number_of_kind (TextColumn max) (TextColumn most) n same fits = absurd fits
+
+text_of_kind : (kind other : ColumnKind) (text : List ℕ) → AreOfOneKind kind other → TextFits other text → IsOfKind kind (Text text)
+text_of_kind (TextColumn max) other text same fits = tt
+text_of_kind IntColumn IntColumn text same fits = absurd fits
+text_of_kind IntColumn BigInt text same fits = absurd fits
+text_of_kind IntColumn (TextColumn most) text same fits = absurd same
+text_of_kind BigInt IntColumn text same fits = absurd fits
+text_of_kind BigInt BigInt text same fits = absurd fits
+text_of_kind BigInt (TextColumn most) text same fits = absurd same
+
+of_one_kind : (kind : ColumnKind) (other : Column) (value : Value) → AreOfOneKind kind other.kind → ValueFits other value → IsOfKind kind value
+of_one_kind kind other Null same fits = null_of_kind kind
+of_one_kind kind other (Int n) same fits = number_of_kind kind other.kind n same fits
+of_one_kind kind other (Text text) same fits = text_of_kind kind other.kind text same fits
+
+-- a column's value in a row that fits
+value_in : (columns : List Column) (row : List Value) (place : ℕ) (column : Column) → ValuesFit columns row → slice_get columns place ≡ Some column
+    → ValueFits column (slice_index_or row place Null)
+value_in [] row place column fits found = absurd (cc)
+value_in (first ∷ columns) [] place column fits found = absurd fits
+value_in (first ∷ columns) (value ∷ row) zero column fits found =
+    let same : first ≡ column = cc in
+    subst (λ (c : Column). ValueFits c value) same fits.0
+value_in (first ∷ columns) (value ∷ row) (suc place) column fits found = value_in columns row place column fits.1 found
+
+value_of_kind : (schema : Schema) (kind : ColumnKind) (row : List Value) (expr : Expr) → RowFits schema row → ExprFits schema kind expr → IsOfKind kind (value_of row expr)
+value_of_kind schema kind row (Lit value) fits of = of
+value_of_kind schema kind row (Cell place) fits of =
+    of_one_kind kind of.0 (slice_index_or row place Null) of.2 (value_in schema.columns row place of.0 fits of.1)
+
+set_fits : (columns : List Column) (row : List Value) (place : ℕ) (column : Column) (value : Value) → ValuesFit columns row → slice_get columns place ≡ Some column
+    → ValueFits column value → ValuesFit columns (slice_set row place value)
+set_fits [] row place column value fits found new = absurd (cc)
+set_fits (first ∷ columns) [] place column value fits found new = absurd fits
+set_fits (first ∷ columns) (old ∷ row) zero column value fits found new =
+    let same : column ≡ first = cc in
+    (subst (λ (c : Column). ValueFits c value) same new, fits.1)
+set_fits (first ∷ columns) (old ∷ row) (suc place) column value fits found new =
+    (fits.0, set_fits columns row place column value fits.1 found new)
+
+take_set : (count : ℕ) (row : List Value) (place : ℕ) (value : Value) → count ≤ place → take count (slice_set row place value) ≡ take count row
+take_set zero row place value le = refl
+take_set (suc count) [] place value le = refl
+take_set (suc count) (old ∷ row) zero value le = absurd (omega arith)
+take_set (suc count) (old ∷ row) (suc place) value le = ap (λ (rest : List Value). old ∷ rest) (take_set count row place value (omega arith))
+
+-- a row that fits and has the key of another
+pub record Keeps (schema : Schema) (old new : List Value) : Type 0 where
+  pub fits : RowFits schema new
+  pub key : key_of schema new ≡ key_of schema old
+
+assigned_is : (schema : Schema) (assignment : Assignment) (row : List Value) (column : Column) → slice_get schema.columns assignment.column ≡ Some column
+    → assigned schema assignment row ≡ slice_set row assignment.column (stored column (value_of row assignment.expr))
+assigned_is schema assignment row column found =
+    ap (λ (o : Option Column). option_map_or (λ (c : Column). slice_set row assignment.column (stored c (value_of row assignment.expr))) o row) found
+
+assigned_keeps : (schema : Schema) (assignment : Assignment) (row : List Value) → RowFits schema row → AssignmentFits schema assignment → Keeps schema row (assigned schema assignment row)
+assigned_keeps schema assignment row fits of =
+    let column : Column = of.column in
+    let value : Value = stored column (value_of row assignment.expr) in
+    subst (Keeps schema row) (sym (assigned_is schema assignment row column of.found)) (record {
+      fits = set_fits schema.columns row assignment.column column value fits of.found
+          (stored_fits column (value_of row assignment.expr) (value_of_kind schema column.kind row assignment.expr fits of.fits));
+      key = take_set schema.key_len row assignment.column value of.behind_key;
+    })
+
+after_sets_keeps : (schema : Schema) (sets : List Assignment) (row : List Value) → RowFits schema row → AllByRecursion (AssignmentFits schema) sets → Keeps schema row (after_sets schema sets row)
+after_sets_keeps schema [] row fits of = record { fits = fits; key = refl }
+after_sets_keeps schema (assignment ∷ sets) row fits of =
+    let one = assigned_keeps schema assignment row fits of.0 in
+    let rest = after_sets_keeps schema sets (assigned schema assignment row) one.fits of.1 in
+    record { fits = rest.fits; key = rest.key ∙ one.key }
+
+-- what is left of a row, if anything, keeps it
+abbrev pub LeftKeeps : Schema → List Value → Option (List Value) → Type 0
+LeftKeeps schema old None = Unit {0}
+LeftKeeps schema old (Some new) = Keeps schema old new
+
+itself : (schema : Schema) (row : List Value) → RowFits schema row → Keeps schema row row
+itself schema row fits = record { fits = fits; key = refl }
+
+delete_keeps : (schema : Schema) (taken : Bool) (row : List Value) → RowFits schema row → LeftKeeps schema row (cond taken None (Some row))
+delete_keeps schema true row fits = tt
+delete_keeps schema false row fits = itself schema row fits
+
+update_keeps : (schema : Schema) (taken : Bool) (row new : List Value) → RowFits schema row → Keeps schema row new → LeftKeeps schema row (Some (cond taken new row))
+update_keeps schema true row new fits keeps = keeps
+update_keeps schema false row new fits keeps = itself schema row fits
+
+within_keeps : (schema : Schema) (statement : Statement) (row : List Value) → RowFits schema row → StatementFits schema statement → LeftKeeps schema row (effect_within schema statement (Some row))
+within_keeps schema (Insert table new) row fits of = itself schema row fits
+within_keeps schema (Delete table where_true) row fits of = delete_keeps schema (is_taken where_true row) row fits
+within_keeps schema (Update table sets where_true) row fits of =
+    update_keeps schema (is_taken where_true row) row (after_sets schema sets row) fits (after_sets_keeps schema sets row fits of)
+within_keeps schema (Check table chunk span kind) row fits of = itself schema row fits
+within_keeps schema (SetMaster table chunk kind master) row fits of = itself schema row fits
+within_keeps schema (ClearChecks table) row fits of = itself schema row fits
+
+choice_keeps : (schema : Schema) (row : List Value) (reached : Bool) (left : Option (List Value)) → RowFits schema row → LeftKeeps schema row left → LeftKeeps schema row (cond reached left (Some row))
+choice_keeps schema row true left fits keeps = keeps
+choice_keeps schema row false left fits keeps = itself schema row fits
+
+pub effect_keeps : (schema : Schema) (statement : Statement) (key row : List Value) → RowFits schema row → StatementFits schema statement → LeftKeeps schema row (effect schema statement key (Some row))
+effect_keeps schema statement key row fits of =
+    choice_keeps schema row (has (reach_of schema statement) key) (effect_within schema statement (Some row)) fits (within_keeps schema statement row fits of)
+
+-- what is left of greater rows is greater
+front_above : (schema : Schema) (least old : List Value) (left : Option (List Value)) (rows : List (List Value)) → LeftKeeps schema old left
+    → key_cmp (key_of schema least) (key_of schema old) ≡ Less → IsBelowAll schema least rows → IsBelowAll schema least (with_front left rows)
+front_above schema least old None rows keeps below all = all
+front_above schema least old (Some new) rows keeps below all =
+    (ap (key_cmp (key_of schema least)) keeps.key ∙ below, all)
+
+changed_above : (schema : Schema) (statement : Statement) (least : List Value) (rows : List (List Value)) → StatementFits schema statement → IsTable schema rows
+    → IsBelowAll schema least rows → IsBelowAll schema least (changed schema statement rows)
+changed_above schema statement least [] of table below = tt
+changed_above schema statement least (row ∷ rows) of table below =
+    front_above schema least row (effect schema statement (key_of schema row) (Some row)) (changed schema statement rows)
+    (effect_keeps schema statement (key_of schema row) row table.0 of) below.0
+    (changed_above schema statement least rows of table.2 below.1)
+
+same_above : (schema : Schema) (old new : List Value) (rows : List (List Value)) → key_of schema new ≡ key_of schema old → IsBelowAll schema old rows → IsBelowAll schema new rows
+same_above schema old new [] same below = tt
+same_above schema old new (row ∷ rows) same below =
+    (ap (λ (key : List Value). key_cmp key (key_of schema row)) same ∙ below.0, same_above schema old new rows same below.1)
+
+front_table : (schema : Schema) (old : List Value) (left : Option (List Value)) (rows : List (List Value)) → LeftKeeps schema old left
+    → IsBelowAll schema old rows → IsTable schema rows → IsTable schema (with_front left rows)
+front_table schema old None rows keeps below table = table
+front_table schema old (Some new) rows keeps below table = (keeps.fits, same_above schema old new rows keeps.key below, table)
+
+changed_table : (schema : Schema) (statement : Statement) (rows : List (List Value)) → StatementFits schema statement → IsTable schema rows → IsTable schema (changed schema statement rows)
+changed_table schema statement [] of table = tt
+changed_table schema statement (row ∷ rows) of table =
+    front_table schema row (effect schema statement (key_of schema row) (Some row)) (changed schema statement rows)
+    (effect_keeps schema statement (key_of schema row) row table.0 of)
+    (changed_above schema statement row rows of table.2 table.1)
+    (changed_table schema statement rows of table.2)
+
+-- a key below a row's is below all that follow that row
+below_all : (schema : Schema) (least row : List Value) (rows : List (List Value)) → key_cmp (key_of schema least) (key_of schema row) ≡ Less → IsBelowAll schema row rows → IsBelowAll schema least rows
+below_all schema least row [] below all = tt
+below_all schema least row (other ∷ others) below all =
+    (key_below (key_of schema least) (key_of schema row) (key_of schema other) below all.0, below_all schema least row others below all.1)
+
+put_above_at : (schema : Schema) (least row other : List Value) (others : List (List Value)) (o : Ordering) → key_cmp (key_of schema least) (key_of schema row) ≡ Less
+    → IsBelowAll schema least (other ∷ others) → IsBelowAll schema least (with_new_row schema row others)
+    → IsBelowAll schema least (match_ordering o (row ∷ other ∷ others) (other ∷ others) (other ∷ with_new_row schema row others))
+put_above_at schema least row other others Less below all more = (below, all)
+put_above_at schema least row other others Equal below all more = all
+put_above_at schema least row other others Greater below all more = (all.0, more)
+
+put_above : (schema : Schema) (least row : List Value) (rows : List (List Value)) → key_cmp (key_of schema least) (key_of schema row) ≡ Less → IsBelowAll schema least rows
+    → IsBelowAll schema least (with_new_row schema row rows)
+put_above schema least row [] below all = (below, tt)
+put_above schema least row (other ∷ others) below all =
+    put_above_at schema least row other others (key_cmp (key_of schema row) (key_of schema other)) below all (put_above schema least row others below all.1)
+
+put_table_at : (schema : Schema) (row other : List Value) (others : List (List Value)) (o : Ordering) → key_cmp (key_of schema row) (key_of schema other) ≡ o
+    → RowFits schema row → IsTable schema (other ∷ others) → IsTable schema (with_new_row schema row others)
+    → IsTable schema (match_ordering o (row ∷ other ∷ others) (other ∷ others) (other ∷ with_new_row schema row others))
+put_table_at schema row other others Less e fits table more = (fits, (e, below_all schema row other others e table.1), table)
+put_table_at schema row other others Equal e fits table more = table
+put_table_at schema row other others Greater e fits table more =
+    (table.0, put_above schema other row others (key_turns_back (key_of schema row) (key_of schema other) e) table.1, more)
+
+put_table : (schema : Schema) (row : List Value) (rows : List (List Value)) → RowFits schema row → IsTable schema rows → IsTable schema (with_new_row schema row rows)
+put_table schema row [] fits table = (fits, tt, tt)
+put_table schema row (other ∷ others) fits table =
+    put_table_at schema row other others (key_cmp (key_of schema row) (key_of schema other)) refl fits table (put_table schema row others fits table.2)
+
+-- a statement that fits leaves a table
+pub rows_after_table : (schema : Schema) (statement : Statement) (rows : List (List Value)) → StatementFits schema statement → IsTable schema rows → IsTable schema (rows_after schema statement rows)
+rows_after_table schema (Insert table row) rows of is = put_table schema row rows of is
+rows_after_table schema (Delete table where_true) rows of is = changed_table schema (Delete table where_true) rows of is
+rows_after_table schema (Update table sets where_true) rows of is = changed_table schema (Update table sets where_true) rows of is
+rows_after_table schema (Check table chunk span kind) rows of is = is
+rows_after_table schema (SetMaster table chunk kind master) rows of is = is
+rows_after_table schema (ClearChecks table) rows of is = is
+
+as_many : (columns : List Column) (values : List Value) → ValuesFit columns values → length values ≡ length columns
+as_many [] [] fit = refl
+as_many [] (value ∷ values) fit = absurd fit
+as_many (column ∷ columns) [] fit = absurd fit
+as_many (column ∷ columns) (value ∷ values) fit = ap suc (as_many columns values fit.1)
+
+-- the rows of a table rise
+pub table_rises : (schema : Schema) (rows : List (List Value)) → IsSchema schema → IsTable schema rows → IsRising schema rows
+table_rises schema [] is table = tt
+table_rises schema (row ∷ rows) is table =
+    (omega (arith, as_many schema.columns row table.0, is.within), table.1, table_rises schema rows is table.2)
