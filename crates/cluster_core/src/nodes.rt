@@ -266,7 +266,8 @@ fn enter_change(history: &mut Entries, entry: Entry, rows: &mut Rows, change: Ch
     ensures history_left { OnErr result (history.new ≡ history.old) }
     ensures rows_left { OnErr result (rows.new ≡ rows.old) }
 {
-    rows.items.reserve(change.rows.len())?;
+    let more = change.rows.len().saturating_sub(change.to - change.from);
+    rows.items.reserve(more)?;
     history.push(entry)?;
     apply_change(&mut rows.items, change);
     Ok(())

@@ -1,3 +1,5 @@
 pub mod ChangeLemmas
 pub mod EffectLemmas
+pub mod LawLemmas
 pub mod TableLemmas
+pub mod TestLemmas

@@ -188,7 +188,7 @@ front_above schema least old None rows keeps below all = all
 front_above schema least old (Some new) rows keeps below all =
     (ap (key_cmp (key_of schema least)) keeps.key ∙ below, all)
 
-changed_above : (schema : Schema) (statement : Statement) (least : List Value) (rows : List (List Value)) → StatementFits schema statement → IsTable schema rows
+pub changed_above : (schema : Schema) (statement : Statement) (least : List Value) (rows : List (List Value)) → StatementFits schema statement → IsTable schema rows
     → IsBelowAll schema least rows → IsBelowAll schema least (changed schema statement rows)
 changed_above schema statement least [] of table below = tt
 changed_above schema statement least (row ∷ rows) of table below =

@@ -1,5 +1,253 @@
-use crate::{Statement, Statements};
-use row_types::{Digest, DigestKind, Span};
+ghost use Rattle.std.specs.Prelude.{◌≡◌, [], ◌∷◌, pos, IfOk};
+ghost use Rattle.ptc_statement.specs.Planned.{IsRising};
+
+use crate::{
+    Assignment, Change, Cond, Expr, Op, Sets, Statement, Statements, act, apply_change, has_key_of,
+    planned, reach,
+};
+use row_types::{
+    Bytes, Column, ColumnKind, Columns, Digest, DigestKind, Edge, Key, R, Row, Rows, Schema, Span,
+    Value,
+};
+use std::alloc::Global;
+
+fn column(alloc: Global, kind: ColumnKind, nullable: bool) -> Column {
+    Column {
+        name: Bytes::new(alloc),
+        kind,
+        nullable,
+    }
+}
+
+/// A table with a key of one column and a column that takes NULL.
+fn schema(alloc: Global) -> R<Schema>
+    ensures { IfOk result (λ schema. schema.key_len ≡ 1) }
+{
+    let mut columns = Columns::new(alloc);
+    columns.push(column(alloc, ColumnKind::Int, false))?;
+    columns.push(column(alloc, ColumnKind::Int, true))?;
+    Ok(Schema {
+        name: Bytes::new(alloc),
+        columns,
+        key_len: 1,
+    })
+}
+
+fn row(alloc: Global, id: i64, v: i64) -> R<Row>
+    ensures { IfOk result (λ row. row ≡ Value.Int id ∷ Value.Int v ∷ []) }
+{
+    let mut row = Row::new(alloc);
+    row.push(Value::Int(id))?;
+    row.push(Value::Int(v))?;
+    Ok(row)
+}
+
+fn null_row(alloc: Global, id: i64) -> R<Row> {
+    let mut row = Row::new(alloc);
+    row.push(Value::Int(id))?;
+    row.push(Value::Null)?;
+    Ok(row)
+}
+
+fn key(alloc: Global, id: i64) -> R<Key> {
+    let mut key = Key::new(alloc);
+    key.push(Value::Int(id))?;
+    Ok(key)
+}
+
+/// Three rows.
+fn table(alloc: Global) -> R<Rows>
+    ensures { IfOk result (λ rows. rows ≡
+        (Value.Int (pos 2) ∷ Value.Int (pos 20) ∷ []) ∷ (Value.Int (pos 4) ∷ Value.Int (pos 40) ∷ []) ∷ (Value.Int (pos 6) ∷ Value.Int (pos 60) ∷ []) ∷ []) }
+{
+    let mut rows = Rows::new(alloc);
+    rows.push(row(alloc, 2, 20)?)?;
+    rows.push(row(alloc, 4, 40)?)?;
+    rows.push(row(alloc, 6, 60)?)?;
+    Ok(rows)
+}
+
+/// The condition that a column has a value.
+fn column_is(column: u32, value: Value) -> Option<Cond> {
+    Some(Cond::Compare {
+        op: Op::Eq,
+        left: Expr::Cell(column),
+        right: Expr::Lit(value),
+    })
+}
+
+fn insert(alloc: Global, id: i64, v: i64) -> R<Statement> {
+    Ok(Statement::Insert {
+        table: 0,
+        row: row(alloc, id, v)?,
+    })
+}
+
+fn delete(cond: Option<Cond>) -> Statement {
+    Statement::Delete { table: 0, cond }
+}
+
+/// UPDATE .. SET v = 5.
+fn update(alloc: Global, cond: Option<Cond>) -> R<Statement> {
+    let mut sets = Sets::new(alloc);
+    sets.push(Assignment {
+        column: 1,
+        expr: Expr::Lit(Value::Int(5)),
+    })?;
+    Ok(Statement::Update {
+        table: 0,
+        sets,
+        cond,
+    })
+}
+
+/// Whether a statement leaves this at a key.
+fn gives(
+    alloc: Global,
+    statement: &Statement,
+    id: i64,
+    old: Option<&Row>,
+    new: Option<&Row>,
+) -> R<bool> {
+    let schema = schema(alloc)?;
+    let key = key(alloc, id)?;
+    match (act(alloc, statement, &schema, &key, old)?, new) {
+        (None, None) => Ok(true),
+        (Some(left), Some(new)) => Ok(left.same(new)),
+        _ => Ok(false),
+    }
+}
+
+/// What a statement does to a row, and to none.
+#[test]
+fn statements_act_at_a_key(rt: HostRuntime) {
+    let alloc = rt.alloc();
+    let old = row(alloc, 1, 9).expect(&rt, "memory");
+    let old_copy = row(alloc, 1, 9).expect(&rt, "memory");
+    let new = row(alloc, 1, 5).expect(&rt, "memory");
+    let put = insert(alloc, 1, 5).expect(&rt, "memory");
+    assert!(rt; gives(alloc, &put, 1, None, Some(&new)).expect(&rt, "memory"));
+    assert!(rt; gives(alloc, &put, 1, Some(&old), Some(&old_copy)).expect(&rt, "memory"));
+    assert!(rt; gives(alloc, &put, 2, None, None).expect(&rt, "memory"));
+    let set = update(alloc, column_is(0, Value::Int(1))).expect(&rt, "memory");
+    assert!(rt; gives(alloc, &set, 1, Some(&old), Some(&new)).expect(&rt, "memory"));
+    assert!(rt; gives(alloc, &set, 1, None, None).expect(&rt, "memory"));
+    let other = row(alloc, 2, 9).expect(&rt, "memory");
+    let other_copy = row(alloc, 2, 9).expect(&rt, "memory");
+    assert!(rt; gives(alloc, &set, 2, Some(&other), Some(&other_copy)).expect(&rt, "memory"));
+    let gone = delete(column_is(0, Value::Int(1)));
+    assert!(rt; gives(alloc, &gone, 1, Some(&old), None).expect(&rt, "memory"));
+    assert!(rt; gives(alloc, &gone, 2, Some(&other), Some(&other_copy)).expect(&rt, "memory"));
+}
+
+/// A comparison with NULL takes no row, and without a condition each is taken.
+#[test]
+fn null_is_unknown(rt: HostRuntime) {
+    let alloc = rt.alloc();
+    let old = null_row(alloc, 1).expect(&rt, "memory");
+    let old_copy = null_row(alloc, 1).expect(&rt, "memory");
+    let with_null = delete(column_is(1, Value::Null));
+    assert!(rt; gives(alloc, &with_null, 1, Some(&old), Some(&old_copy)).expect(&rt, "memory"));
+    let with_number = delete(column_is(1, Value::Int(5)));
+    assert!(rt; gives(alloc, &with_number, 1, Some(&old), Some(&old_copy)).expect(&rt, "memory"));
+    let new = row(alloc, 1, 5).expect(&rt, "memory");
+    let set = update(alloc, None).expect(&rt, "memory");
+    assert!(rt; gives(alloc, &set, 1, Some(&old), Some(&new)).expect(&rt, "memory"));
+    assert!(rt; gives(alloc, &delete(None), 1, Some(&old), None).expect(&rt, "memory"));
+}
+
+/// A condition on the key narrows what a statement walks, one on another column doesn't.
+#[test]
+fn conditions_narrow_the_reach(rt: HostRuntime) {
+    let alloc = rt.alloc();
+    let schema = schema(alloc).expect(&rt, "memory");
+    let five = Span {
+        lo: Edge::Before(key(alloc, 5).expect(&rt, "memory")),
+        hi: Edge::After(key(alloc, 5).expect(&rt, "memory")),
+    };
+    let one = reach(alloc, &delete(column_is(0, Value::Int(5))), &schema).expect(&rt, "memory");
+    assert!(rt; one.same(&five));
+    let put = insert(alloc, 5, 1).expect(&rt, "memory");
+    assert!(rt;
+        reach(alloc, &put, &schema)
+            .expect(&rt, "memory")
+            .same(&five)
+    );
+    let other = reach(alloc, &delete(column_is(1, Value::Int(5))), &schema).expect(&rt, "memory");
+    assert!(rt; other.same(&Span::whole()));
+    let all = reach(alloc, &delete(None), &schema).expect(&rt, "memory");
+    assert!(rt; all.same(&Span::whole()));
+}
+
+/// The rows that a statement leaves of three.
+#[tactic(auto, using(crate::proofs::TestLemmas::three_rise))]
+fn rows_left(alloc: Global, statement: &Statement) -> R<Rows> {
+    let schema = schema(alloc)?;
+    let mut rows = table(alloc)?;
+    let change: Change = planned(alloc, statement, &schema, rows.as_slice())?;
+    rows.items.reserve(change.rows.len())?;
+    apply_change(&mut rows.items, change);
+    Ok(rows)
+}
+
+fn are(alloc: Global, rows: &Rows, expected: &[(i64, i64)]) -> R<bool> {
+    let mut others = Rows::new(alloc);
+    for (id, v) in expected {
+        others.push(row(alloc, *id, *v)?)?;
+    }
+    Ok(rows.same(&others))
+}
+
+fn leaves(alloc: Global, statement: &Statement, expected: &[(i64, i64)]) -> R<bool> {
+    let rows = rows_left(alloc, statement)?;
+    are(alloc, &rows, expected)
+}
+
+/// Rows at the front, in the middle, at the end, and at an absent key.
+#[test]
+fn tables_change_by_statements(rt: HostRuntime) {
+    let alloc = rt.alloc();
+    let put = insert(alloc, 1, 5).expect(&rt, "memory");
+    assert!(rt; leaves(alloc, &put, &[(1, 5), (2, 20), (4, 40), (6, 60)]).expect(&rt, "memory"));
+    let put = insert(alloc, 5, 5).expect(&rt, "memory");
+    assert!(rt; leaves(alloc, &put, &[(2, 20), (4, 40), (5, 5), (6, 60)]).expect(&rt, "memory"));
+    let put = insert(alloc, 7, 5).expect(&rt, "memory");
+    assert!(rt; leaves(alloc, &put, &[(2, 20), (4, 40), (6, 60), (7, 5)]).expect(&rt, "memory"));
+    let put = insert(alloc, 4, 5).expect(&rt, "memory");
+    assert!(rt; leaves(alloc, &put, &[(2, 20), (4, 40), (6, 60)]).expect(&rt, "memory"));
+    let gone = delete(column_is(0, Value::Int(2)));
+    assert!(rt; leaves(alloc, &gone, &[(4, 40), (6, 60)]).expect(&rt, "memory"));
+    let gone = delete(column_is(1, Value::Int(40)));
+    assert!(rt; leaves(alloc, &gone, &[(2, 20), (6, 60)]).expect(&rt, "memory"));
+    let gone = delete(column_is(0, Value::Int(3)));
+    assert!(rt; leaves(alloc, &gone, &[(2, 20), (4, 40), (6, 60)]).expect(&rt, "memory"));
+    assert!(rt; leaves(alloc, &delete(None), &[]).expect(&rt, "memory"));
+    let set = update(alloc, column_is(0, Value::Int(6))).expect(&rt, "memory");
+    assert!(rt; leaves(alloc, &set, &[(2, 20), (4, 40), (6, 5)]).expect(&rt, "memory"));
+    let set = update(alloc, None).expect(&rt, "memory");
+    assert!(rt; leaves(alloc, &set, &[(2, 5), (4, 5), (6, 5)]).expect(&rt, "memory"));
+    let clear = Statement::ClearChecks { table: 0 };
+    assert!(rt; leaves(alloc, &clear, &[(2, 20), (4, 40), (6, 60)]).expect(&rt, "memory"));
+}
+
+#[tactic(auto, using(crate::proofs::TestLemmas::three_rise))]
+fn has_id(alloc: Global, id: i64) -> R<bool> {
+    let schema = schema(alloc)?;
+    let rows = table(alloc)?;
+    let row = row(alloc, id, 0)?;
+    Ok(has_key_of(&schema, rows.as_slice(), &row))
+}
+
+/// Keys are found, whatever stands behind them.
+#[test]
+fn keys_are_found(rt: HostRuntime) {
+    let alloc = rt.alloc();
+    assert!(rt; has_id(alloc, 2).expect(&rt, "memory"));
+    assert!(rt; has_id(alloc, 6).expect(&rt, "memory"));
+    assert!(rt; !has_id(alloc, 1).expect(&rt, "memory"));
+    assert!(rt; !has_id(alloc, 5).expect(&rt, "memory"));
+    assert!(rt; !has_id(alloc, 7).expect(&rt, "memory"));
+}
 
 /// Copies are the same as what they were made from, and no statement is the same as another.
 #[test]

@@ -1,0 +1,154 @@
+-- After a statement that fits, a table has at each key what the statement makes of the row there.
+use Rattle.std.proofs.Common.{◌≡◌, ◌∙◌, ℕ, Bool, true, false, cond, Option, Some, None, List, [], ◌∷◌, refl, ap, sym}
+use Rattle.std.specs.Prelude.{◌&&◌}
+use Rattle.std.specs.Ordering.{is_eq, is_le, match_ordering, ordering_reverse}
+use Rattle.std.specs.declared.cmp.Ordering.{Ordering}
+use Rattle.std.specs.declared.cmp.Ordering.TheVariants.{Less, Equal, Greater}
+use Rattle.row_types.specs.declared.values.Value.{Value}
+use Rattle.row_types.specs.declared.table_schema.Schema.{Schema}
+use Rattle.row_types.specs.Order.{key_cmp, has}
+use Rattle.row_types.specs.Fit.{key_of, IsBelowAll, IsTable}
+use Rattle.row_types.proofs.OrderLemmas.{keys_total, keys_exact, key_ties, key_below}
+use Rattle.ptc_statement.specs.declared.statements.Statement.{Statement}
+use Rattle.ptc_statement.specs.declared.statements.Statement.TheVariants.{Insert, Delete, Update, Check, SetMaster, ClearChecks}
+use Rattle.ptc_statement.specs.Effect.{just_key, reach_of, effect, effect_within, changed, with_front, with_new_row, rows_after, row_at}
+use Rattle.ptc_statement.specs.Fits.{StatementFits}
+use Rattle.ptc_statement.proofs.TableLemmas.{LeftKeeps, effect_keeps, changed_above}
+
+is_equal : (o : Ordering) → is_eq o ≡ true → o ≡ Equal
+is_equal Less e = cc
+is_equal Equal e = refl
+is_equal Greater e = cc
+
+either_way : (b : Bool) (o : Option (List Value)) → cond b o o ≡ o
+either_way true o = refl
+either_way false o = refl
+
+-- no row behind another has its key
+none_behind : (schema : Schema) (key row : List Value) (rows : List (List Value)) → key ≡ key_of schema row → IsBelowAll schema row rows → row_at schema key rows ≡ None
+none_behind schema key row [] is below = refl
+none_behind schema key row (other ∷ others) is below =
+    ap (λ (o : Ordering). cond (is_eq o) (Some other) (row_at schema key others)) (ap (λ (k : List Value). key_cmp k (key_of schema other)) is ∙ below.0)
+    ∙ none_behind schema key row others is below.1
+
+-- the row at a key behind what is left of a row with another key, or with this one
+front_other : (schema : Schema) (key row : List Value) (left : Option (List Value)) (rows : List (List Value)) → LeftKeeps schema row left
+    → is_eq (key_cmp key (key_of schema row)) ≡ false → row_at schema key (with_front left rows) ≡ row_at schema key rows
+front_other schema key row None rows keeps other = refl
+front_other schema key row (Some new) rows keeps other =
+    ap (λ (b : Bool). cond b (Some new) (row_at schema key rows)) (ap (λ (k : List Value). is_eq (key_cmp key k)) keeps.key ∙ other)
+
+front_same : (schema : Schema) (key row : List Value) (left : Option (List Value)) (rows : List (List Value)) → LeftKeeps schema row left
+    → is_eq (key_cmp key (key_of schema row)) ≡ true → row_at schema key rows ≡ None → row_at schema key (with_front left rows) ≡ left
+front_same schema key row None rows keeps same none = none
+front_same schema key row (Some new) rows keeps same none =
+    ap (λ (b : Bool). cond b (Some new) (row_at schema key rows)) (ap (λ (k : List Value). is_eq (key_cmp key k)) keeps.key ∙ same)
+
+changed_first : (schema : Schema) (statement : Statement) (key row : List Value) (rows : List (List Value)) (b : Bool) → is_eq (key_cmp key (key_of schema row)) ≡ b
+    → StatementFits schema statement → IsTable schema (row ∷ rows)
+    → row_at schema key (changed schema statement rows) ≡ effect schema statement key (row_at schema key rows)
+    → row_at schema key (changed schema statement (row ∷ rows)) ≡ effect schema statement key (cond b (Some row) (row_at schema key rows))
+changed_first schema statement key row rows true same of table more =
+    let is : key ≡ key_of schema row = keys_exact key (key_of schema row) (is_equal (key_cmp key (key_of schema row)) same) in
+    front_same schema key row (effect schema statement (key_of schema row) (Some row)) (changed schema statement rows)
+    (effect_keeps schema statement (key_of schema row) row table.0 of) same
+    (none_behind schema key row (changed schema statement rows) is (changed_above schema statement row rows of table.2 table.1))
+    ∙ ap (λ (k : List Value). effect schema statement k (Some row)) (sym is)
+changed_first schema statement key row rows false other of table more =
+    front_other schema key row (effect schema statement (key_of schema row) (Some row)) (changed schema statement rows)
+    (effect_keeps schema statement (key_of schema row) row table.0 of) other
+    ∙ more
+
+changed_at : (schema : Schema) (statement : Statement) (key : List Value) (rows : List (List Value)) → effect schema statement key None ≡ None
+    → StatementFits schema statement → IsTable schema rows
+    → row_at schema key (changed schema statement rows) ≡ effect schema statement key (row_at schema key rows)
+changed_at schema statement key [] absent of table = sym absent
+changed_at schema statement key (row ∷ rows) absent of table =
+    changed_first schema statement key row rows (is_eq (key_cmp key (key_of schema row))) refl of table
+    (changed_at schema statement key rows absent of table.2)
+
+-- an INSERT leaves the other keys
+put_other_at : (schema : Schema) (key row other : List Value) (others : List (List Value)) (o : Ordering) → is_eq (key_cmp key (key_of schema row)) ≡ false
+    → row_at schema key (with_new_row schema row others) ≡ row_at schema key others
+    → row_at schema key (match_ordering o (row ∷ other ∷ others) (other ∷ others) (other ∷ with_new_row schema row others)) ≡ row_at schema key (other ∷ others)
+put_other_at schema key row other others Less apart more = ap (λ (b : Bool). cond b (Some row) (row_at schema key (other ∷ others))) apart
+put_other_at schema key row other others Equal apart more = refl
+put_other_at schema key row other others Greater apart more =
+    ap (cond (is_eq (key_cmp key (key_of schema other))) (Some other)) more
+
+put_other : (schema : Schema) (key row : List Value) (rows : List (List Value)) → is_eq (key_cmp key (key_of schema row)) ≡ false
+    → row_at schema key (with_new_row schema row rows) ≡ row_at schema key rows
+put_other schema key row [] apart = ap (λ (b : Bool). cond b (Some row) None) apart
+put_other schema key row (other ∷ others) apart =
+    put_other_at schema key row other others (key_cmp (key_of schema row) (key_of schema other)) apart (put_other schema key row others apart)
+
+-- at its own key it gives its row where none is
+abbrev or_new : List Value → Option (List Value) → Option (List Value)
+or_new row None = Some row
+or_new row (Some old) = Some old
+
+first_here : (schema : Schema) (row : List Value) (rows : List (List Value)) → row_at schema (key_of schema row) (row ∷ rows) ≡ Some row
+first_here schema row rows = ap (λ (o : Ordering). cond (is_eq o) (Some row) (row_at schema (key_of schema row) rows)) (key_ties (key_of schema row))
+
+below_rest : (schema : Schema) (row other : List Value) (others : List (List Value)) → key_cmp (key_of schema row) (key_of schema other) ≡ Less → IsBelowAll schema other others
+    → IsBelowAll schema row others
+below_rest schema row other [] below all = tt
+below_rest schema row other (next ∷ others) below all =
+    (key_below (key_of schema row) (key_of schema other) (key_of schema next) below all.0, below_rest schema row other others below all.1)
+
+put_same_at : (schema : Schema) (row other : List Value) (others : List (List Value)) (o : Ordering) → key_cmp (key_of schema row) (key_of schema other) ≡ o
+    → IsTable schema (other ∷ others)
+    → row_at schema (key_of schema row) (with_new_row schema row others) ≡ or_new row (row_at schema (key_of schema row) others)
+    → row_at schema (key_of schema row) (match_ordering o (row ∷ other ∷ others) (other ∷ others) (other ∷ with_new_row schema row others))
+    ≡ or_new row (cond (is_eq o) (Some other) (row_at schema (key_of schema row) others))
+put_same_at schema row other others Less e table more =
+    first_here schema row (other ∷ others)
+    ∙ ap (or_new row) (sym (none_behind schema (key_of schema row) row others refl (below_rest schema row other others e table.1)))
+put_same_at schema row other others Equal e table more =
+    ap (λ (o : Ordering). cond (is_eq o) (Some other) (row_at schema (key_of schema row) others)) e
+put_same_at schema row other others Greater e table more =
+    ap (λ (o : Ordering). cond (is_eq o) (Some other) (row_at schema (key_of schema row) (with_new_row schema row others))) e ∙ more
+
+put_same : (schema : Schema) (row : List Value) (rows : List (List Value)) → IsTable schema rows
+    → row_at schema (key_of schema row) (with_new_row schema row rows) ≡ or_new row (row_at schema (key_of schema row) rows)
+put_same schema row [] table = first_here schema row []
+put_same schema row (other ∷ others) table =
+    put_same_at schema row other others (key_cmp (key_of schema row) (key_of schema other)) refl table (put_same schema row others table.2)
+
+is_new : (schema : Schema) (table : ℕ) (row : List Value) (old : Option (List Value)) → or_new row old ≡ effect_within schema (Insert table row) old
+is_new schema table row None = refl
+is_new schema table row (Some old) = refl
+
+-- only a key itself is between its two sides
+both_ways : (o p : Ordering) → p ≡ ordering_reverse o → is_le p && is_le o ≡ is_eq o
+both_ways Less p e = rw e refl
+both_ways Equal p e = rw e refl
+both_ways Greater p e = rw e refl
+
+just_itself : (key other : List Value) → has (just_key key) other ≡ is_eq (key_cmp other key)
+just_itself key other = both_ways (key_cmp other key) (key_cmp key other) (keys_total.antisymm key other)
+
+insert_at : (schema : Schema) (table : ℕ) (key row : List Value) (rows : List (List Value)) (b : Bool) → is_eq (key_cmp key (key_of schema row)) ≡ b → IsTable schema rows
+    → row_at schema key (with_new_row schema row rows) ≡ cond b (effect_within schema (Insert table row) (row_at schema key rows)) (row_at schema key rows)
+insert_at schema table key row rows true same is =
+    let here : key ≡ key_of schema row = keys_exact key (key_of schema row) (is_equal (key_cmp key (key_of schema row)) same) in
+    ap (λ (k : List Value). row_at schema k (with_new_row schema row rows)) here
+    ∙ put_same schema row rows is
+    ∙ is_new schema table row (row_at schema (key_of schema row) rows)
+    ∙ ap (λ (k : List Value). effect_within schema (Insert table row) (row_at schema k rows)) (sym here)
+insert_at schema table key row rows false apart is = put_other schema key row rows apart
+
+-- at each key the table has what the statement makes of the row there
+pub acts_at : (schema : Schema) (statement : Statement) (rows : List (List Value)) (key : List Value) → StatementFits schema statement → IsTable schema rows
+    → row_at schema key (rows_after schema statement rows) ≡ effect schema statement key (row_at schema key rows)
+acts_at schema (Insert table row) rows key of is =
+    insert_at schema table key row rows (is_eq (key_cmp key (key_of schema row))) refl is
+    ∙ ap (λ (b : Bool). cond b (effect_within schema (Insert table row) (row_at schema key rows)) (row_at schema key rows)) (sym (just_itself (key_of schema row) key))
+acts_at schema (Delete table where_true) rows key of is =
+    changed_at schema (Delete table where_true) key rows (either_way (has (reach_of schema (Delete table where_true)) key) None) of is
+acts_at schema (Update table sets where_true) rows key of is =
+    changed_at schema (Update table sets where_true) key rows (either_way (has (reach_of schema (Update table sets where_true)) key) None) of is
+acts_at schema (Check table chunk span kind) rows key of is = sym (either_way (has span key) (row_at schema key rows))
+acts_at schema (SetMaster table chunk kind master) rows key of is =
+    sym (either_way (has (reach_of schema (SetMaster table chunk kind master)) key) (row_at schema key rows))
+acts_at schema (ClearChecks table) rows key of is = sym (either_way (has (reach_of schema (ClearChecks table)) key) (row_at schema key rows))
