@@ -25,21 +25,25 @@ use Rattle.history.specs.Headline.{IsTrueMaster, MastersAreTrue, Compares, IsVer
 use Rattle.history.proofs.ReplayLemmas.{fold_more, masters_more, follows_more, follows_longer_log, follows_length, applied_of-follows}
 use Rattle.history.proofs.VerdictLemmas.{each_verdict}
 use Rattle.cluster_core.specs.Node.{NodeView, replayed_of, logged}
-use Rattle.cluster_core.specs.World.{SessionView, WorldView, fresh, unstarted, begun, is_duplicate, by_session, line_logged, line_refused, step_done, session_turn, by_tool, whole_table, tool_logged, published, next_phase, tool_turn_in, next_applied, worker_turn, turn, after, after_turns, sessions_from, workers_from, order, round, rounds, IsStill, EndsIn}
+use Rattle.cluster_core.specs.Sessions.{SessionView, unstarted, is_duplicate, by_session}
+use Rattle.cluster_core.specs.World.{WorldView, fresh, begun, session_turn, by_tool, whole_table, tool_logged, published, next_phase, tool_turn_in, next_applied, worker_turn, turn, sessions_from, workers_from, order, round, rounds, IsStill, EndsIn, move, behind_item, step, played}
 use Rattle.cluster_core.specs.declared.report_verdicts.VerdictLine.{VerdictLine}
 use Rattle.cluster_core.specs.Report.{verdict_line, all_chunks, replica_verdicts, verdicts_from, verdicts_of}
-use Rattle.cluster_core.specs.Turns.{IsNumbered}
-use Rattle.cluster_core.specs.Headline.{LineHolds, IsOfWholeTable, HasLine, AppliedAll, logged_by, IsTools, IsOwnedBy, RefusedTruly, LoggedTruly, RunHolds}
+use Rattle.cluster_core.specs.Turns.{IsNumbered, ItemIsNumbered}
+use Rattle.cluster_core.specs.Headline.{LineHolds, IsOfWholeTable, HasLine, AppliedAll, logged_by, IsTools, IsOwnedBy, EachRefusedTruly, LoggedTruly, RunHolds}
 use Rattle.cluster_core.specs.Workload.{StepFits, IsWorkload}
 use Rattle.cluster_core.specs.declared.workload.Workload.{Workload}
 use Rattle.cluster_core.specs.declared.actors.Actor.{Actor}
 use Rattle.cluster_core.specs.declared.actors.Actor.TheVariants.{Session, Tool, Worker}
+use Rattle.cluster_core.specs.declared.schedule.Item.{Item}
+use Rattle.cluster_core.specs.declared.schedule.Item.TheVariants.{Turn}
 use Rattle.cluster_core.specs.declared.actors.ToolPhase.{ToolPhase}
 use Rattle.cluster_core.specs.declared.actors.ToolPhase.TheVariants.{Clear, Check, Master, Finished}
 use Rattle.cluster_core.proofs.EachLemmas.{each_more, each_append, each_first, each_rest, each_at, each_set, each_map, each_always, map_set_same, map_back, map_after, slice_get_none, LastFrom, last_all, last_first, last_more}
+use Rattle.cluster_core.proofs.KeptLemmas.{schedule_numbered}
 use Rattle.cluster_core.proofs.MasterLemmas.{IsMastered, SameMasters, IsThere, same_masters, mastered_there, each_placed, mastered_known}
-use Rattle.cluster_core.proofs.RefusalLemmas.{refused_kept, refused_done, refused_more, truly_more}
-use Rattle.cluster_core.proofs.RunLemmas.{did_line}
+use Rattle.cluster_core.proofs.RefusalLemmas.{refused_kept, refused_begun, refused_at, refused_set, refused_done, refused_more, truly_more}
+use Rattle.cluster_core.proofs.MoveLemmas.{did_line, line_logged, line_refused, line_done, line_done_either}
 use Rattle.cluster_core.proofs.SessionLemmas.{EachSession, SessionHolds, next_line, logged_by_own, logged_by_other, own_number, other_number, session_logged, session_refused, sessions_begun, sessions_at, sessions_kept, sessions_set, sessions_ended}
 use Rattle.cluster_core.proofs.TableLemmas.{IsWhole, RowsHold, no_rows, cleared_rows, checked_rows, published_rows, told_there, replica_has_line}
 
@@ -63,7 +67,7 @@ pub record Holds (workload : Workload) (w : WorldView) : Type 0 where
   pub scripts : map (λ (view : SessionView). view.script) w.sessions ≡ map (λ (script : Script). script.lines) workload.sessions
   pub sessions : EachSession workload.schemas.tables w.source.history 1 w.sessions
   pub owners : EachOwned (length w.sessions) w.source.history
-  pub refused_lines : AllByRecursion (RefusedTruly w.source) w.sessions
+  pub refused_lines : EachRefusedTruly w.source 1 w.sessions
   pub logged_truly : LoggedTruly w.source
 
 pub begun_holds : (workload : Workload) → IsWorkload workload → Holds workload (begun workload)
@@ -79,9 +83,7 @@ begun_holds workload is = record {
   scripts = map_after unstarted (λ (view : SessionView). view.script) (λ (script : Script). script.lines) workload.sessions (λ script. refl);
   sessions = sessions_begun workload.schemas.tables 1 workload.sessions is.scripts;
   owners = tt;
-  refused_lines = each_map unstarted (RefusedTruly (fresh workload.schemas.tables workload.source)) workload.sessions
-      (each_always (λ (script : Script). RefusedTruly (fresh workload.schemas.tables workload.source) (unstarted script)) workload.sessions
-      (λ script. record { rise = tt; duplicates = tt }));
+  refused_lines = refused_begun (fresh workload.schemas.tables workload.source) 1 workload.sessions;
   logged_truly = λ before session entry found by. absurd (cc);
 }
 
@@ -125,7 +127,7 @@ logged_holds workload w statement next before tools true_one rows = record {
   sessions = sessions_kept workload.schemas.tables w.source.history (w.source.history ++ by_tool statement ∷ []) 1 w.sessions
       (λ session least. logged_by_other session w.source.history (by_tool statement) refl) before.sessions;
   owners = owned_more (length w.sessions) w.source.history (by_tool statement) before.owners (tools, tt);
-  refused_lines = refused_kept w.source (by_tool statement) w.sessions before.refused_lines;
+  refused_lines = refused_kept w.source (by_tool statement) 1 w.sessions before.refused_lines;
   logged_truly = truly_more w.source (by_tool statement) (λ session by. absurd (cc)) before.logged_truly;
 }
 
@@ -269,7 +271,7 @@ line_logged_holds workload w session view line statement from_one found at step 
     let own : logged_by session log ++ (statement ∷ []) ∷ [] ≡ logged_by session (log ++ entry ∷ []) = sym (logged_by_own session log entry (own_number session)) in
     let within : session - 1 < length w.sessions = slice_get_within w.sessions (session - 1) view found in
     let many : length w.sessions ≡ length (slice_set w.sessions (session - 1) done) = sym (length-set w.sessions (session - 1) done) in
-    let refused : AllByRecursion (RefusedTruly (logged w.source entry)) w.sessions = refused_kept w.source entry w.sessions before.refused_lines in
+    let refused : EachRefusedTruly (logged w.source entry) 1 w.sessions = refused_kept w.source entry 1 w.sessions before.refused_lines in
     let owned : EachOwned (length w.sessions) (log ++ entry ∷ []) = owned_more (length w.sessions) log entry before.owners (from_one, omega arith) in
     record {
       schemas = before.schemas;
@@ -285,8 +287,9 @@ line_logged_holds workload w session view line statement from_one found at step 
           (session_logged schemas (logged_by session log) view line statement holds at step))
           before.sessions;
       owners = subst (λ n. EachOwned n (log ++ entry ∷ [])) many owned;
-      refused_lines = each_set (RefusedTruly (logged w.source entry)) w.sessions (session - 1) done refused
-          (refused_done (logged w.source entry) view (each_at (RefusedTruly (logged w.source entry)) w.sessions (session - 1) view refused found));
+      refused_lines = refused_set (logged w.source entry) 1 (session - 1) session w.sessions done (omega arith)
+          (refused_done (logged w.source entry) session view (refused_at (logged w.source entry) 1 (session - 1) session w.sessions view (omega arith) found refused))
+          refused;
       logged_truly = truly_more w.source entry (λ number by. (new, tt)) before.logged_truly;
     }
 
@@ -318,15 +321,12 @@ line_refused_holds workload w session view line statement from_one found at step
           (session_refused schemas (logged_by session log) view line holds at)
           before.sessions;
       owners = subst (λ n. EachOwned n log) many before.owners;
-      refused_lines = each_set (RefusedTruly w.source) w.sessions (session - 1) done before.refused_lines
-          (refused_more w.source view line statement at step (next_line schemas (logged_by session log) view line holds at).above_refused duplicate
-          (each_at (RefusedTruly w.source) w.sessions (session - 1) view before.refused_lines found));
+      refused_lines = refused_set w.source 1 (session - 1) session w.sessions done (omega arith)
+          (refused_more schemas w.source session view line statement holds at step duplicate
+          (refused_at w.source 1 (session - 1) session w.sessions view (omega arith) found before.refused_lines))
+          before.refused_lines;
       logged_truly = before.logged_truly;
     }
-
-tested : (P : WorldView → Type 0) (b : Bool) (one other : WorldView) → (b ≡ true → P one) → (b ≡ false → P other) → P (cond b one other)
-tested P true one other holds_one holds_other = holds_one refl
-tested P false one other holds_one holds_other = holds_other refl
 
 line_holds : (workload : Workload) (w : WorldView) (session : ℕ) (view : SessionView) (line : ScriptLine) (step : ScriptStep)
     → 1 ≤ session
@@ -334,9 +334,9 @@ line_holds : (workload : Workload) (w : WorldView) (session : ℕ) (view : Sessi
     → slice_get view.script view.next ≡ Some line
     → line.step ≡ step
     → Holds workload w
-    → Holds workload (step_done session view line step w)
+    → Holds workload (line_done session view line step w)
 line_holds workload w session view line (Run statement) from_one found at step before =
-    tested (Holds workload) (is_duplicate w.source statement) (line_refused session view line w) (line_logged session view statement w)
+    line_done_either (Holds workload) session view line statement w
     (line_refused_holds workload w session view line statement from_one found at step before)
     (line_logged_holds workload w session view line statement from_one found at step before)
 
@@ -350,33 +350,58 @@ turn_holds workload (Session session) w v numbered before is = session_holds wor
 turn_holds workload Tool w v numbered before is = tool_holds workload w.phase w v before.rows before is
 turn_holds workload (Worker replica worker) w v numbered before is = seat_holds workload (worker == 1) replica w v before is
 
-after_holds_at : (workload : Workload) (actor : Actor) (w : WorldView) (next : Option WorldView)
-    → IsNumbered actor → turn actor w ≡ next → Holds workload w → Holds workload (unwrap_or next w)
-after_holds_at workload actor w None numbered is before = before
-after_holds_at workload actor w (Some v) numbered is before = turn_holds workload actor w v numbered before is
+move_holds : (workload : Workload) (item : Item) (w v : WorldView) → ItemIsNumbered item → Holds workload w → move item w ≡ Some v → Holds workload v
+move_holds workload (Turn actor) w v numbered before is = turn_holds workload actor w v numbered before is
 
-pub after_turns_hold : (workload : Workload) (actors : List Actor) (w : WorldView) → AllByRecursion IsNumbered actors → Holds workload w → Holds workload (after_turns actors w)
-after_turns_hold workload [] w numbered before = before
-after_turns_hold workload (actor ∷ actors) w numbered before =
-    after_turns_hold workload actors (after actor w) numbered.1 (after_holds_at workload actor w (turn actor w) numbered.0 refl before)
+next_holds : (workload : Workload) (item : Item) (w : WorldView) (next : Option WorldView)
+    → ItemIsNumbered item → move item w ≡ next → Holds workload w → Holds workload (unwrap_or next w)
+next_holds workload item w None numbered is before = before
+next_holds workload item w (Some v) numbered is before = move_holds workload item w v numbered before is
 
-sessions_numbered : (number : ℕ) (views : List SessionView) → 1 ≤ number → AllByRecursion IsNumbered (sessions_from number views)
+-- nothing of it speaks of the schedule
+behind_holds : (workload : Workload) (w : WorldView) → Holds workload w → Holds workload (behind_item w)
+behind_holds workload w h = record {
+  schemas = h.schemas;
+  source_start = h.source_start;
+  replica_starts = h.replica_starts;
+  replicas = h.replicas;
+  masters = h.masters;
+  rows = h.rows;
+  scripts = h.scripts;
+  sessions = h.sessions;
+  owners = h.owners;
+  refused_lines = h.refused_lines;
+  logged_truly = h.logged_truly;
+}
+
+-- one item: the step of the claim over all schedules
+pub step_holds : (workload : Workload) (item : Item) (w : WorldView) → ItemIsNumbered item → Holds workload w → Holds workload (step item w)
+step_holds workload item w numbered before =
+    behind_holds workload (unwrap_or (move item w) w) (next_holds workload item w (move item w) numbered refl before)
+
+-- and all lists of items
+pub played_holds : (workload : Workload) (items : List Item) (w : WorldView) → AllByRecursion ItemIsNumbered items → Holds workload w → Holds workload (played items w)
+played_holds workload [] w numbered before = before
+played_holds workload (item ∷ items) w numbered before =
+    played_holds workload items (step item w) numbered.1 (step_holds workload item w numbered.0 before)
+
+sessions_numbered : (number : ℕ) (views : List SessionView) → 1 ≤ number → AllByRecursion ItemIsNumbered (sessions_from number views)
 sessions_numbered number [] from_one = tt
 sessions_numbered number (view ∷ views) from_one = (from_one, sessions_numbered (number + 1) views (omega arith))
 
-workers_numbered : (number : ℕ) (nodes : List NodeView) → 1 ≤ number → AllByRecursion IsNumbered (workers_from number nodes)
+workers_numbered : (number : ℕ) (nodes : List NodeView) → 1 ≤ number → AllByRecursion ItemIsNumbered (workers_from number nodes)
 workers_numbered number [] from_one = tt
 workers_numbered number (node ∷ nodes) from_one = (from_one, workers_numbered (number + 1) nodes (omega arith))
 
 -- the actors of a round are numbered from 1
-pub order_numbered : (w : WorldView) → AllByRecursion IsNumbered (order w)
+pub order_numbered : (w : WorldView) → AllByRecursion ItemIsNumbered (order w)
 order_numbered w =
-    each_append IsNumbered (sessions_from 1 w.sessions) (Tool ∷ workers_from 1 w.replicas)
+    each_append ItemIsNumbered (sessions_from 1 w.sessions) (Turn Tool ∷ workers_from 1 w.replicas)
     (sessions_numbered 1 w.sessions (omega arith)) (tt, workers_numbered 1 w.replicas (omega arith))
 
 rounds_hold : (workload : Workload) (count : ℕ) (w : WorldView) → Holds workload w → Holds workload (rounds count w)
 rounds_hold workload zero w before = before
-rounds_hold workload (suc count) w before = rounds_hold workload count (round w) (after_turns_hold workload (order w) w (order_numbered w) before)
+rounds_hold workload (suc count) w before = rounds_hold workload count (round w) (played_holds workload (order w) w (order_numbered w) before)
 
 -- where the tool can't move, it is through all tables
 pub record ToolEnded (phase : ToolPhase) (tables : ℕ) (checks : List CheckEntry) : Type 0 where
@@ -430,7 +455,7 @@ pub record Ended (schemas : List Schema) (log : List Entry) (node : NodeView) : 
 replicas_ended : (w : WorldView) (schemas : List Schema) (number : ℕ) (nodes : List NodeView)
     → LastFrom w.replicas number nodes
     → AllByRecursion (ReplicaHolds schemas w.source.history) nodes
-    → AllByRecursion (λ actor. turn actor w ≡ None) (workers_from number nodes)
+    → AllByRecursion (λ item. move item w ≡ None) (workers_from number nodes)
     → AllByRecursion (Ended schemas w.source.history) nodes
 replicas_ended w schemas number [] last holds still = tt
 replicas_ended w schemas number (node ∷ nodes) last holds still = (
@@ -563,10 +588,10 @@ table_has_line w replica table source ended from_one most within =
 
 ended_holds : (workload : Workload) (w : WorldView) → Holds workload w → IsStill w → RunHolds workload w
 ended_holds workload w holds still =
-    let sessions_still : AllByRecursion (λ actor. turn actor w ≡ None) (sessions_from 1 w.sessions) =
-    each_first (λ actor. turn actor w ≡ None) (sessions_from 1 w.sessions) (Tool ∷ workers_from 1 w.replicas) still in
-    let others_still : AllByRecursion (λ actor. turn actor w ≡ None) (Tool ∷ workers_from 1 w.replicas) =
-    each_rest (λ actor. turn actor w ≡ None) (sessions_from 1 w.sessions) (Tool ∷ workers_from 1 w.replicas) still in
+    let sessions_still : AllByRecursion (λ item. move item w ≡ None) (sessions_from 1 w.sessions) =
+    each_first (λ item. move item w ≡ None) (sessions_from 1 w.sessions) (Turn Tool ∷ workers_from 1 w.replicas) still in
+    let others_still : AllByRecursion (λ item. move item w ≡ None) (Turn Tool ∷ workers_from 1 w.replicas) =
+    each_rest (λ item. move item w ≡ None) (sessions_from 1 w.sessions) (Turn Tool ∷ workers_from 1 w.replicas) still in
     let tool = tool_ended w.phase w holds.rows others_still.0 in
     let source : SourceEnded w = record { masters = holds.masters; rows = tool.rows } in
     let replicas = replicas_ended w workload.schemas.tables 1 w.replicas (last_all w.replicas) holds.replicas others_still.1 in
@@ -594,4 +619,5 @@ ended_holds workload w holds still =
 
 pub each_run : (workload : Workload) (last : WorldView) → IsWorkload workload → EndsIn (begun workload) last → RunHolds workload last
 each_run workload last is ends =
-    ended_holds workload last (subst (Holds workload) (sym ends.reached) (rounds_hold workload ends.count (begun workload) (begun_holds workload is))) ends.still
+    let scheduled : Holds workload (played workload.schedule (begun workload)) = played_holds workload workload.schedule (begun workload) (schedule_numbered workload is) (begun_holds workload is) in
+    ended_holds workload last (subst (Holds workload) (sym ends.reached) (rounds_hold workload ends.count (played workload.schedule (begun workload)) scheduled)) ends.still

@@ -1,5 +1,5 @@
 -- What the parts of a world keep over turns.
-use Rattle.std.proofs.Common.{◌≡◌, ℕ, suc, ◌+◌, ◌-◌, ◌<◌, ◌≤◌, map, List, [], ◌∷◌, ◌++◌, length, refl, ap, sym, ◌∙◌, subst, arith, Option, Some, None, Bool, true, false, cond}
+use Rattle.std.proofs.Common.{◌≡◌, ℕ, zero, suc, drop, add-one, ◌+◌, ◌-◌, ◌<◌, ◌≤◌, map, List, [], ◌∷◌, ◌++◌, length, refl, ap, sym, ◌∙◌, subst, arith, Option, Some, None, Bool, true, false, cond}
 use Rattle.std.specs.Prelude.{slice_index_or, slice_set, option_map, option_and_then}
 use Rattle.std.specs.List.{AllByRecursion, slice_get}
 use Rattle.std.proofs.lemmas.List.{set-get_or}
@@ -11,18 +11,20 @@ use Rattle.ptc_statement.specs.declared.scripts.ScriptStep.TheVariants.{Run}
 use Rattle.ptc_statement.specs.Fits.{StatementFits, FitsSchemas}
 use Rattle.history.specs.declared.entries.Origin.{Origin}
 use Rattle.history.specs.declared.entries.Entry.{Entry}
-use Rattle.history.specs.Replay.{applied_of, applying}
-use Rattle.cluster_core.proofs.EachLemmas.{each_append, each_at}
-use Rattle.cluster_core.proofs.RunLemmas.{slice_get-within}
+use Rattle.cluster_core.proofs.EachLemmas.{each_append, each_at, each_more}
+use Rattle.cluster_core.proofs.MoveLemmas.{slice_get-within}
 use Rattle.cluster_core.specs.Node.{NodeView, logged}
 use Rattle.row_types.specs.declared.values.Value.{Value}
 use Rattle.ptc_statement.specs.declared.scripts.Script.{Script}
 use Rattle.cluster_core.specs.declared.workload.Workload.{Workload}
-use Rattle.cluster_core.specs.Workload.{StepFits, ScriptFits, IsWorkload}
-use Rattle.cluster_core.specs.World.{SessionView, WorldView, fresh, unstarted, session_turn, line_turn, step_done, line_logged, line_refused, is_duplicate, by_session, next_applied}
-use Rattle.cluster_core.specs.Sessions.{step_left, line_left}
+use Rattle.cluster_core.specs.Workload.{StepFits, ScriptFits, ItemFits, IsWorkload}
+use Rattle.cluster_core.specs.Sessions.{SessionView, unstarted, is_duplicate, by_session, step_left, line_left}
+use Rattle.cluster_core.specs.World.{WorldView, fresh, session_turn, line_turn, with_session}
 use Rattle.cluster_core.specs.Good.{IsOneFitting, StepsFit, HasSchemas}
-use Rattle.cluster_core.specs.Turns.{Takes}
+use Rattle.cluster_core.specs.Turns.{Takes, ItemIsNumbered}
+use Rattle.cluster_core.specs.declared.actors.Actor.TheVariants.{Session, Tool, Worker}
+use Rattle.cluster_core.specs.declared.schedule.Item.{Item}
+use Rattle.cluster_core.specs.declared.schedule.Item.TheVariants.{Turn}
 
 -- a statement that fits any schema fits these
 pub fits_all : (schemas : List Schema) (statement : Statement) → ((schema : Schema) → StatementFits schema statement) → FitsSchemas schemas statement
@@ -85,58 +87,29 @@ turn_keeps schemas session view new source after moved steps log takes =
     turn_keeps_at schemas session view new source after moved (slice_get view.script view.next) refl steps log takes
 
 -- a session's turn in the world, from what it leaves of the session and the source
-step_is : (session : ℕ) (view : SessionView) (line : ScriptLine) (step : ScriptStep) (w : WorldView)
-    → step_done session view line step w
-    ≡ record w { source = (step_left session view line step w.source).1; sessions = slice_set w.sessions (session - 1) (step_left session view line step w.source).0 }
-step_is session view line (Run statement) w =
-    elim (is_duplicate w.source statement) as (λ b.
-    cond b (line_refused session view line w) (line_logged session view statement w)
-    ≡ record w {
-      source = (cond {A = SessionView × NodeView} b (record view { next = view.next + 1; refused = view.refused ++ line.line ∷ [] }, w.source) (record view { next = view.next + 1 }, logged w.source (by_session session statement))).1;
-      sessions = slice_set w.sessions (session - 1) (cond {A = SessionView × NodeView} b (record view { next = view.next + 1; refused = view.refused ++ line.line ∷ [] }, w.source) (record view { next = view.next + 1 }, logged w.source (by_session session statement))).0;
-    })
-    [ true ↦ refl | false ↦ refl ]
-
-line_takes : (w : WorldView) (session : ℕ) (view new : SessionView) (after : NodeView) (moved : Bool) (found : Option ScriptLine)
+placed_takes : (w : WorldView) (session : ℕ) (view new : SessionView) (after : NodeView) (moved : Bool) (next : Option (SessionView × NodeView))
     → slice_set w.sessions (session - 1) view ≡ w.sessions
-    → Takes (option_map (λ (line : ScriptLine). step_left session view line line.step w.source) found) moved (view, w.source) (new, after)
-    → Takes (option_map (λ (line : ScriptLine). step_done session view line line.step w) found) moved w (record w { source = after; sessions = slice_set w.sessions (session - 1) new })
-line_takes w session view new after moved None stays takes =
-    let P : SessionView × NodeView → Type 0 = λ p. record w { source = p.1; sessions = slice_set w.sessions (session - 1) p.0 } ≡ w in
-    record {
-      did = takes.did;
-      state = subst P (sym takes.state) (ap (λ (vs : List SessionView). record w { sessions = vs }) stays);
-    }
-line_takes w session view new after moved (Some line) stays takes =
-    let P : SessionView × NodeView → Type 0 = λ p. record w { source = p.1; sessions = slice_set w.sessions (session - 1) p.0 } ≡ step_done session view line line.step w in
-    record {
-      did = takes.did;
-      state = subst P (sym takes.state) (sym (step_is session view line line.step w));
-    }
+    → Takes next moved (view, w.source) (new, after)
+    → Takes (option_map (λ (both : SessionView × NodeView). with_session session both w) next) moved w (with_session session (new, after) w)
+placed_takes w session view new after moved None stays takes = record {
+  did = takes.did;
+  state = ap (λ (both : SessionView × NodeView). with_session session both w) takes.state ∙ ap (λ (vs : List SessionView). record w { sessions = vs }) stays;
+}
+placed_takes w session view new after moved (Some both) stays takes = record {
+  did = takes.did;
+  state = ap (λ (both : SessionView × NodeView). with_session session both w) takes.state;
+}
 
 pub session_takes : (w : WorldView) (session : ℕ) (view new : SessionView) (after : NodeView) (moved : Bool)
     → session - 1 < length w.sessions
     → view ≡ slice_index_or w.sessions (session - 1) view
     → Takes (line_left session view w.source) moved (view, w.source) (new, after)
-    → Takes (session_turn session w) moved w (record w { source = after; sessions = slice_set w.sessions (session - 1) new })
+    → Takes (session_turn session w) moved w (with_session session (new, after) w)
 session_takes w session view new after moved within is takes =
     let found : slice_get w.sessions (session - 1) ≡ Some view = slice_get-within w.sessions (session - 1) view within ∙ ap (λ (v : SessionView). Some v) (sym is) in
     let stays : slice_set w.sessions (session - 1) view ≡ w.sessions = ap (slice_set w.sessions (session - 1)) is ∙ set-get_or w.sessions (session - 1) view in
-    let P : Option SessionView → Type 0 = λ o. Takes (option_and_then (λ (v : SessionView). line_turn session v w) o) moved w (record w { source = after; sessions = slice_set w.sessions (session - 1) new }) in
-    subst P (sym found) (line_takes w session view new after moved (slice_get view.script view.next) stays takes)
-
--- a node that applied an entry has the schemas that it had
-applied_at : (node : NodeView) (found : Option Entry) (moved : Bool) (new : NodeView)
-    → Takes (option_and_then (λ entry. Some (logged node (applying (applied_of node.history + 1) entry))) found) moved node new
-    → new.schemas ≡ node.schemas
-applied_at node None moved new takes = ap (λ (n : NodeView). n.schemas) takes.state
-applied_at node (Some entry) moved new takes = ap (λ (n : NodeView). n.schemas) takes.state
-
-pub applied_keeps : (log : List Entry) (node new : NodeView) (moved : Bool) → Takes (next_applied log node) moved node new → new.schemas ≡ node.schemas
-applied_keeps log node new moved takes = applied_at node (slice_get log (applied_of node.history)) moved new takes
-
-pub same_schemas : (schemas others : List Schema) (entries : List Entry) → others ≡ schemas → AllByRecursion (IsOneFitting schemas) entries → AllByRecursion (IsOneFitting others) entries
-same_schemas schemas others entries same all = subst (λ (s : List Schema). AllByRecursion (IsOneFitting s) entries) (sym same) all
+    let P : Option SessionView → Type 0 = λ o. Takes (option_and_then (λ (v : SessionView). line_turn session v w) o) moved w (with_session session (new, after) w) in
+    subst P (sym found) (placed_takes w session view new after moved (line_left session view w.source) stays takes)
 
 -- the parts of a new world
 begun_nodes : (schemas : List Schema) (copies : List (List (List (List Value)))) → AllByRecursion (HasSchemas schemas) (map (fresh schemas) copies)
@@ -151,16 +124,29 @@ length_map : {A B : Type 0} (f : A → B) (xs : List A) → length (map f xs) �
 length_map f [] = refl
 length_map f (x ∷ xs) = ap suc (length_map f xs)
 
-pub record KeptParts (source : NodeView) (replicas : List NodeView) (sessions : List SessionView) : Type 0 where
+-- the actors that a workload has are numbered from 1
+item_numbered : (sessions replicas : ℕ) (item : Item) → ItemFits sessions replicas item → ItemIsNumbered item
+item_numbered sessions replicas (Turn (Session session)) fits = fits.0
+item_numbered sessions replicas (Turn Tool) fits = tt
+item_numbered sessions replicas (Turn (Worker replica worker)) fits = fits.0
+
+pub schedule_numbered : (workload : Workload) → IsWorkload workload → AllByRecursion ItemIsNumbered workload.schedule
+schedule_numbered workload is =
+    each_more (ItemFits (length workload.sessions) workload.replicas) ItemIsNumbered workload.schedule
+    (λ item fits. item_numbered (length workload.sessions) workload.replicas item fits)
+    is.schedule
+
+pub record KeptParts (source : NodeView) (replicas : List NodeView) (sessions : List SessionView) (schedule : List Item) : Type 0 where
   pub tables : length source.schemas ≤ 16
   pub few_replicas : length replicas ≤ 8
   pub few_sessions : length sessions ≤ 64
   pub same : AllByRecursion (HasSchemas source.schemas) replicas
   pub log : AllByRecursion (IsOneFitting source.schemas) source.history
   pub scripts : AllByRecursion (StepsFit source.schemas) sessions
+  pub items : AllByRecursion ItemIsNumbered schedule
 
 pub begun_parts : (workload : Workload) → IsWorkload workload
-    → KeptParts (fresh workload.schemas.tables workload.source) (map (fresh workload.schemas.tables) workload.copies) (map unstarted workload.sessions)
+    → KeptParts (fresh workload.schemas.tables workload.source) (map (fresh workload.schemas.tables) workload.copies) (map unstarted workload.sessions) workload.schedule
 begun_parts workload is = record {
   tables = is.most_tables;
   few_replicas = omega (arith, length_map (fresh workload.schemas.tables) workload.copies, is.each_copied, is.most_replicas);
@@ -168,4 +154,14 @@ begun_parts workload is = record {
   same = begun_nodes workload.schemas.tables workload.copies;
   log = tt;
   scripts = begun_sessions workload.schemas.tables workload.sessions is.scripts;
+  items = schedule_numbered workload is;
 }
+
+-- the schedule behind one item more
+drop_suc : {A : Type 0} (i : ℕ) (xs : List A) → drop (suc i) xs ≡ drop 1 (drop i xs)
+drop_suc zero xs = refl
+drop_suc (suc i) [] = refl
+drop_suc (suc i) (x ∷ xs) = drop_suc i xs
+
+pub drop_next : {A : Type 0} (i : ℕ) (xs : List A) → drop (i + 1) xs ≡ drop 1 (drop i xs)
+drop_next i xs = ap (λ n. drop n xs) (add-one i) ∙ drop_suc i xs

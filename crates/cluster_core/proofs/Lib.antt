@@ -2,6 +2,7 @@ pub mod EachLemmas
 pub mod HeadlineLemmas
 pub mod KeptLemmas
 pub mod MasterLemmas
+pub mod MoveLemmas
 pub mod NodeLemmas
 pub mod OrderLemmas
 pub mod RefusalLemmas

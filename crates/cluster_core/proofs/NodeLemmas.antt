@@ -1,5 +1,5 @@
 -- Tables whose rows fit can be encoded, and what a node keeps after one more statement.
-use Rattle.std.proofs.Common.{◌≡◌, ℕ, zero, suc, ◌<◌, ◌^◌, ◌+◌, List, [], ◌∷◌, ◌++◌, length, refl, ap, sym, ◌∙◌, subst, arith, Option, Some, None, ◌≤◌}
+use Rattle.std.proofs.Common.{◌≡◌, ℕ, zero, suc, ◌<◌, ◌^◌, ◌+◌, List, [], ◌∷◌, ◌++◌, length, refl, ap, sym, ◌∙◌, subst, arith, Option, Some, None}
 use Rattle.std.specs.Prelude.{slice_index_or, slice_set}
 use Rattle.std.specs.Option.{option_map_or}
 use Rattle.std.specs.List.{AllByRecursion, slice_get}
@@ -10,7 +10,6 @@ use Rattle.row_types.specs.declared.table_schema.ColumnKind.TheVariants.{Int as 
 use Rattle.row_types.specs.declared.table_schema.Column.{Column}
 use Rattle.row_types.specs.declared.table_schema.Schema.{Schema}
 use Rattle.row_types.specs.Fit.{IsSchema, IsTable, AreTables, ValuesFit, ValueFits, TextFits, KindFits, LengthFits}
-use Rattle.std.proofs.lemmas.List.{set-get_or}
 use Rattle.ptc_statement.specs.declared.statements.Statement.{Statement}
 use Rattle.ptc_statement.specs.Effect.{table_of, rows_after}
 use Rattle.ptc_statement.specs.Fits.{FitsSchemas}
@@ -121,13 +120,7 @@ pub tables_change : (schemas : List Schema) (statement : Statement) (tables : Li
 tables_change schemas statement tables schema found =
     ap (λ (o : Option Schema). option_map_or (λ (schema : Schema). slice_set tables (table_of statement) (rows_after schema statement (table_rows tables (table_of statement)))) o tables) found
 
--- so a change that isn't one is right where no schema stands
-pub stays_by_change : (schemas : List Schema) (statement : Statement) (tables : List (List (List Value))) (rows : List (List Value)) → slice_get schemas (table_of statement) ≡ None → rows ≡ []
-    → tables_after schemas statement tables ≡ with_change tables (table_of statement) 0 0 rows
-stays_by_change schemas statement tables rows absent none =
-    tables_stay schemas statement tables absent ∙ sym (set-get_or tables (table_of statement) [])
-    ∙ ap (λ (rs : List (List Value)). with_change tables (table_of statement) 0 0 rs) (sym none)
-
+-- so it is a change of its rows, where one was worked out for them
 pub changes_by_change : (schemas : List Schema) (statement : Statement) (tables : List (List (List Value))) (schema : Schema) (from to : ℕ) (rows : List (List Value))
     → slice_get schemas (table_of statement) ≡ Some schema
     → rows_after schema statement (table_rows tables (table_of statement)) ≡ replaced from to rows (table_rows tables (table_of statement))
@@ -172,9 +165,3 @@ log_keeps schemas start history new origin statement number position live after 
     ∙ ap (λ p. after_statement schemas p statement (record { tables = live; checks = checks })) place
     ∙ ap (λ (t : List (List (List Value))). record { tables = t; checks = checks_after schemas position statement (record { tables = live; checks = checks }) }) changed
     ∙ ap (λ (cs : List CheckEntry). record { tables = after; checks = cs }) (sym checked)
-
--- a table that isn't there has no row to replace
-pub set_nothing : (tables : List (List (List Value))) (table : ℕ) (rows : List (List Value)) → length tables ≤ table → slice_set tables table rows ≡ tables
-set_nothing [] table rows le = refl
-set_nothing (first ∷ tables) zero rows le = absurd (omega arith)
-set_nothing (first ∷ tables) (suc table) rows le = ap (λ (ts : List (List (List Value))). first ∷ ts) (set_nothing tables table rows (omega arith))

@@ -12,8 +12,10 @@ use Rattle.ptc_statement.specs.declared.scripts.ScriptLine.{ScriptLine}
 use Rattle.ptc_statement.specs.declared.scripts.ScriptStep.{ScriptStep}
 use Rattle.ptc_statement.specs.declared.scripts.ScriptStep.TheVariants.{Run}
 use Rattle.history.specs.declared.entries.Entry.{Entry}
-use Rattle.cluster_core.specs.World.{SessionView, WorldView, unstarted, step_done, line_turn, sessions_from, turn}
-use Rattle.cluster_core.specs.Headline.{is_among, step_call, calls_of, is_by, logged_by, OwnCalls, EachOwnCalls}
+use Rattle.cluster_core.specs.Node.{NodeView}
+use Rattle.cluster_core.specs.Sessions.{SessionView, unstarted, step_left}
+use Rattle.cluster_core.specs.World.{WorldView, line_turn, sessions_from, with_session, move}
+use Rattle.cluster_core.specs.Headline.{is_among, step_call, calls_of, is_by, logged_by, singly, OwnCalls, EachOwnCalls}
 use Rattle.cluster_core.specs.Workload.{StepFits, LinesRise, ScriptFits}
 use Rattle.cluster_core.proofs.EachLemmas.{each_both, each_append, each_always, LastFrom, last_first, last_more}
 
@@ -22,10 +24,6 @@ NumbersBelow bound numbers = AllByRecursion (λ number. number < bound) numbers
 
 abbrev pub LinesBelow : ℕ → List ScriptLine → Type 0
 LinesBelow bound lines = AllByRecursion (λ (line : ScriptLine). line.line < bound) lines
-
--- each statement as an entry's
-abbrev pub singly : List Statement → List (List Statement)
-singly statements = map (λ (statement : Statement). statement ∷ []) statements
 
 -- a session did its script's first lines, and logged those that were not refused; the lines left fit,
 -- and their numbers rise above those of the others
@@ -37,6 +35,7 @@ pub record SessionHolds (schemas : List Schema) (entries : List (List Statement)
   pub calls : entries ≡ singly (calls_of view.refused done)
   pub fits : AllByRecursion (λ (line : ScriptLine). StepFits schemas line.step) rest
   pub rise : LinesRise rest
+  pub all_rise : LinesRise view.script
   pub above_done : AllByRecursion (λ (line : ScriptLine). LinesBelow line.line done) rest
   pub above_refused : AllByRecursion (λ (line : ScriptLine). NumbersBelow line.line view.refused) rest
 
@@ -67,7 +66,7 @@ now_among line [] = ap (λ b. b || false) (itself line)
 now_among line (number ∷ refused) = ap (λ b. (number == line) || b) (now_among line refused) ∙ or_true (number == line)
 
 -- the calls of the lines that are done
-calls_same : (new : ℕ) (refused : List ℕ) (lines : List ScriptLine) → LinesBelow new lines → calls_of (refused ++ new ∷ []) lines ≡ calls_of refused lines
+pub calls_same : (new : ℕ) (refused : List ℕ) (lines : List ScriptLine) → LinesBelow new lines → calls_of (refused ++ new ∷ []) lines ≡ calls_of refused lines
 calls_same new refused [] below = refl
 calls_same new refused (line ∷ lines) below =
     ap (λ b. step_call line.step b (calls_of (refused ++ new ∷ []) lines)) (among_more line.line new refused below.0)
@@ -179,6 +178,7 @@ session_does schemas entries now view refused line holds next calls above = reco
   calls = calls;
   fits = next.more_fit;
   rise = next.more_rise;
+  all_rise = holds.all_rise;
   above_done = each_both
       (λ (later : ScriptLine). LinesBelow later.line holds.done)
       (λ (later : ScriptLine). line.line < later.line)
@@ -246,6 +246,7 @@ sessions_begun schemas number (script ∷ scripts) fit = (
     calls = refl;
     fits = fit.0.steps;
     rise = fit.0.numbers;
+    all_rise = fit.0.numbers;
     above_done = each_always (λ (line : ScriptLine). LinesBelow line.line []) script.lines (λ line. tt);
     above_refused = each_always (λ (line : ScriptLine). NumbersBelow line.line []) script.lines (λ line. tt);
   },
@@ -317,14 +318,14 @@ session_ended schemas log session view holds none =
     }
 
 no_line : (session : ℕ) (view : SessionView) (w : WorldView) (next : Option ScriptLine)
-    → option_map (λ (line : ScriptLine). step_done session view line line.step w) next ≡ None → next ≡ None
+    → option_map (λ (after : SessionView × NodeView). with_session session after w) (option_map (λ (line : ScriptLine). step_left session view line line.step w.source) next) ≡ None → next ≡ None
 no_line session view w None is = refl
 no_line session view w (Some line) is = absurd (cc)
 
 pub sessions_ended : (w : WorldView) (schemas : List Schema) (number : ℕ) (views : List SessionView)
     → LastFrom w.sessions number views
     → EachSession schemas w.source.history number views
-    → AllByRecursion (λ actor. turn actor w ≡ None) (sessions_from number views)
+    → AllByRecursion (λ item. move item w ≡ None) (sessions_from number views)
     → EachOwnCalls w.source.history number views
 sessions_ended w schemas number [] last each still = tt
 sessions_ended w schemas number (view ∷ views) last each still =

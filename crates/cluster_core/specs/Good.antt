@@ -8,7 +8,7 @@ use Rattle.ptc_statement.specs.Fits.{FitsSchemas}
 use Rattle.history.specs.declared.entries.Entry.{Entry}
 use Rattle.cluster_core.specs.Node.{NodeView}
 use Rattle.cluster_core.specs.Workload.{StepFits}
-use Rattle.cluster_core.specs.World.{SessionView}
+use Rattle.cluster_core.specs.Sessions.{SessionView}
 
 -- an entry of one statement, which fits
 pub record IsOneFitting (schemas : List Schema) (entry : Entry) : Type 0 where

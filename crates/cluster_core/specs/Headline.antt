@@ -1,5 +1,5 @@
 -- What the report of a finished run says: its log and histories, and what each printed verdict means.
-use Rattle.std.specs.Prelude.{Bool, List, Some, [], cond, false, filter, length, map, take, true, ℕ, ◌+◌, ◌-◌, ◌<◌, ◌==◌, ◌↔◌, ◌∷◌, ◌≡◌, ◌≢◌, ◌≤◌}
+use Rattle.std.specs.Prelude.{◌++◌, Bool, List, Some, [], cond, false, filter, length, map, take, true, ℕ, ◌+◌, ◌-◌, ◌<◌, ◌==◌, ◌↔◌, ◌∷◌, ◌≡◌, ◌≢◌, ◌≤◌}
 use Rattle.std.specs.List.{AllByRecursion, Contains, list_any, slice_get}
 use Rattle.row_types.specs.declared.values.Value.{Value}
 use Rattle.row_types.specs.declared.digests.DigestKind.{DigestKind}
@@ -18,7 +18,8 @@ use Rattle.history.specs.Digest.{digest_of}
 use Rattle.history.specs.Replay.{chunk_rows, source_at, replica_at, Follows}
 use Rattle.history.specs.Headline.{MastersAreTrue, HasStatementAt, DigestsDistinguish}
 use Rattle.cluster_core.specs.Node.{NodeView}
-use Rattle.cluster_core.specs.World.{SessionView, WorldView, is_duplicate, whole_table}
+use Rattle.cluster_core.specs.Sessions.{SessionView, is_duplicate}
+use Rattle.cluster_core.specs.World.{WorldView, whole_table}
 use Rattle.cluster_core.specs.Report.{verdicts_of}
 use Rattle.cluster_core.specs.declared.report_verdicts.VerdictLine.{VerdictLine}
 use Rattle.cluster_core.specs.declared.actors.ToolPhase.TheVariants.{Finished}
@@ -96,11 +97,15 @@ is_by session (Applied number) = false
 abbrev pub logged_by : ℕ → List Entry → List (List Statement)
 logged_by session log = map (λ (entry : Entry). entry.statements) (filter (λ (entry : Entry). is_by session entry.origin) log)
 
+-- each statement as an entry's
+abbrev pub singly : List Statement → List (List Statement)
+singly statements = map (λ (statement : Statement). statement ∷ []) statements
+
 -- own calls: a session is through its script, and its entries of the log are, in order and each
 -- once, the statements of its script without those that are printed as duplicates
 pub record OwnCalls (log : List Entry) (session : ℕ) (view : SessionView) : Type 0 where
   pub through : view.next ≡ length view.script
-  pub calls : logged_by session log ≡ map (λ (statement : Statement). statement ∷ []) (calls_of view.refused view.script)
+  pub calls : logged_by session log ≡ singly (calls_of view.refused view.script)
 
 abbrev pub EachOwnCalls : List Entry → ℕ → List SessionView → Type 0
 EachOwnCalls log number [] = Unit {0}
@@ -110,16 +115,19 @@ EachOwnCalls log number (view ∷ views) = OwnCalls log number view × EachOwnCa
 abbrev pub is_duplicate_at : NodeView → ℕ → Statement → Bool
 is_duplicate_at source position statement = is_duplicate (record source { history = take position source.history }) statement
 
--- the number is that of a line of the script that was refused truly: at some point of the log its
--- statement was a duplicate
-pub record IsTrueDuplicate (source : NodeView) (script : List ScriptLine) (number : ℕ) : Type 0 where
+-- the number is that of a line of a session's script that was refused truly: at the line's own turn,
+-- when the session's entries of the log were those of the lines above it, its statement was a duplicate
+pub record IsTrueDuplicate (source : NodeView) (session : ℕ) (script : List ScriptLine) (refused : List ℕ) (number : ℕ) : Type 0 where
+  pub above : List ScriptLine
   pub line : ScriptLine
-  pub among : Contains script line
+  pub below : List ScriptLine
+  pub among : script ≡ above ++ line ∷ below
   pub numbered : line.line ≡ number
   pub statement : Statement
   pub step : line.step ≡ Run statement
   pub position : ℕ
   pub in_log : position ≤ length source.history
+  pub at_its_turn : logged_by session (take position source.history) ≡ singly (calls_of refused above)
   pub duplicate : is_duplicate_at source position statement ≡ true
 
 -- the numbers rise, so each stands once
@@ -128,9 +136,13 @@ NumbersRise [] = Unit {0}
 NumbersRise (number ∷ numbers) = AllByRecursion (λ later. number < later) numbers × NumbersRise numbers
 
 -- a session's refused lines: by rising number, and each refused truly
-pub record RefusedTruly (source : NodeView) (view : SessionView) : Type 0 where
+pub record RefusedTruly (source : NodeView) (session : ℕ) (view : SessionView) : Type 0 where
   pub rise : NumbersRise view.refused
-  pub duplicates : AllByRecursion (IsTrueDuplicate source view.script) view.refused
+  pub duplicates : AllByRecursion (IsTrueDuplicate source session view.script view.refused) view.refused
+
+abbrev pub EachRefusedTruly : NodeView → ℕ → List SessionView → Type 0
+EachRefusedTruly source number [] = Unit {0}
+EachRefusedTruly source number (view ∷ views) = RefusedTruly source number view × EachRefusedTruly source (number + 1) views
 
 -- no statement that a session logged was a duplicate where it stands: after the entries before it
 abbrev pub LoggedTruly : NodeView → Type 0
@@ -161,9 +173,9 @@ pub record RunHolds (workload : Workload) (w : WorldView) : Type 0 where
   -- the log's entries of each session are its own calls, and every other entry is the tool's
   pub scripts : map (λ (view : SessionView). view.script) w.sessions ≡ map (λ (script : Script). script.lines) workload.sessions
   pub own_calls : EachOwnCalls w.source.history 1 w.sessions
-  -- each line that was refused was a duplicate at some point of the log, and no statement that a
-  -- session logged was one where it stands
-  pub refused_lines : AllByRecursion (RefusedTruly w.source) w.sessions
+  -- each line that was refused was a duplicate at its own turn, and no statement that a session logged
+  -- was one where it stands
+  pub refused_lines : EachRefusedTruly w.source 1 w.sessions
   pub logged_truly : LoggedTruly w.source
   pub owners : AllByRecursion (λ (entry : Entry). IsOwnedBy (length w.sessions) entry.origin entry.statements) w.source.history
   -- each replica applied the whole log

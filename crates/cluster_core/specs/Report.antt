@@ -19,7 +19,8 @@ use Rattle.history.specs.declared.checks.Verdict.{Verdict}
 use Rattle.history.specs.declared.checks.Verdict.TheVariants.{Same, Differ, Pending}
 use Rattle.history.specs.Checks.{check_at, with_absent, verdict_of_row}
 use Rattle.cluster_core.specs.Node.{NodeView, replayed_of}
-use Rattle.cluster_core.specs.World.{SessionView, WorldView}
+use Rattle.cluster_core.specs.Sessions.{SessionView}
+use Rattle.cluster_core.specs.World.{WorldView}
 use Rattle.cluster_core.specs.declared.report_verdicts.VerdictLine.{VerdictLine}
 use Rattle.cluster_core.specs.Texts.{name_of, table_line, tuple_text, span_text, statement_text}
 

@@ -1,6 +1,6 @@
 -- What contracts see of a session's parts.
 use Rattle.std.specs.Prelude.{◌≤◌, length}
-use Rattle.cluster_core.specs.World.{SessionView}
+use Rattle.cluster_core.specs.Sessions.{SessionView}
 use Rattle.cluster_core.specs.declared.sessions.Session.TheInside.{Inside}
 
 abbrev pub session_view : Inside → SessionView

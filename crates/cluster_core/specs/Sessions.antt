@@ -1,18 +1,46 @@
--- What a session's next line leaves of the session and of the source.
-use Rattle.std.specs.Prelude.{ℕ, ◌+◌, cond, [], ◌∷◌, ◌++◌, Option, option_map}
+-- A client's session, and what its next line leaves of it and of the source.
+use Rattle.std.specs.Prelude.{ℕ, ◌+◌, Bool, false, is_some, cond, List, [], ◌∷◌, ◌++◌, Option, option_map}
 use Rattle.std.specs.List.{slice_get}
+use Rattle.ptc_statement.specs.declared.statements.Statement.{Statement}
+use Rattle.ptc_statement.specs.declared.statements.Statement.TheVariants.{Insert, Delete, Update, Check, SetMaster, ClearChecks}
+use Rattle.ptc_statement.specs.declared.scripts.Script.{Script}
 use Rattle.ptc_statement.specs.declared.scripts.ScriptLine.{ScriptLine}
 use Rattle.ptc_statement.specs.declared.scripts.ScriptStep.{ScriptStep}
 use Rattle.ptc_statement.specs.declared.scripts.ScriptStep.TheVariants.{Run}
-use Rattle.cluster_core.specs.Node.{NodeView, logged}
-use Rattle.cluster_core.specs.World.{SessionView, is_duplicate, by_session}
+use Rattle.history.specs.declared.entries.Origin.TheVariants.{Session}
+use Rattle.history.specs.declared.entries.Entry.{Entry}
+use Rattle.cluster_core.specs.Node.{NodeView, logged, row_on}
 
+-- a session: its script, how many of its lines are done, and the numbers of the lines that were
+-- refused as duplicates
+pub record SessionView : Type 0 where
+  pub script : List ScriptLine
+  pub next : ℕ
+  pub refused : List ℕ
+
+abbrev pub unstarted : Script → SessionView
+unstarted script = record { script = script.lines; next = 0; refused = [] }
+
+-- an INSERT whose key is there
+abbrev pub is_duplicate : NodeView → Statement → Bool
+is_duplicate node (Insert table row) = is_some (row_on node table row)
+is_duplicate node (Delete table where_true) = false
+is_duplicate node (Update table sets where_true) = false
+is_duplicate node (Check table chunk span kind) = false
+is_duplicate node (SetMaster table chunk kind master) = false
+is_duplicate node (ClearChecks table) = false
+
+-- an entry of a session: one statement is a transaction of its own
+abbrev pub by_session : ℕ → Statement → Entry
+by_session session statement = record { origin = Session session; statements = statement ∷ [] }
+
+-- a line done: its statement logged, or refused as a duplicate
 abbrev pub step_left : ℕ → SessionView → ScriptLine → ScriptStep → NodeView → SessionView × NodeView
 step_left session view line (Run statement) source =
     cond (is_duplicate source statement)
     (record view { next = view.next + 1; refused = view.refused ++ line.line ∷ [] }, source)
     (record view { next = view.next + 1 }, logged source (by_session session statement))
 
--- none at the script's end
+-- the next line of a script, done whole; none at the script's end
 abbrev pub line_left : ℕ → SessionView → NodeView → Option (SessionView × NodeView)
 line_left session view source = option_map (λ (line : ScriptLine). step_left session view line line.step source) (slice_get view.script view.next)

@@ -1,5 +1,5 @@
 -- The rules that a workload keeps.
-use Rattle.std.specs.Prelude.{◌≡◌, ◌<◌, ◌≤◌, List, [], ◌∷◌, length}
+use Rattle.std.specs.Prelude.{◌≡◌, ◌<◌, ◌≤◌, ℕ, List, [], ◌∷◌, length}
 use Rattle.std.specs.List.{AllByRecursion}
 use Rattle.row_types.specs.declared.table_schema.Schema.{Schema}
 use Rattle.ptc_statement.specs.declared.scripts.Script.{Script}
@@ -8,6 +8,10 @@ use Rattle.ptc_statement.specs.declared.scripts.ScriptStep.{ScriptStep}
 use Rattle.ptc_statement.specs.declared.scripts.ScriptStep.TheVariants.{Run}
 use Rattle.ptc_statement.specs.Fits.{IsClients, FitsSchemas}
 use Rattle.row_types.specs.Fit.{IsSchema, AreTables}
+use Rattle.cluster_core.specs.declared.actors.Actor.{Actor}
+use Rattle.cluster_core.specs.declared.actors.Actor.TheVariants.{Session, Tool, Worker}
+use Rattle.cluster_core.specs.declared.schedule.Item.{Item}
+use Rattle.cluster_core.specs.declared.schedule.Item.TheVariants.{Turn}
 use Rattle.cluster_core.specs.declared.workload.Workload.{Workload}
 
 -- a client's statement that fits
@@ -23,7 +27,19 @@ pub record ScriptFits (schemas : List Schema) (script : Script) : Type 0 where
   pub steps : AllByRecursion (λ (line : ScriptLine). StepFits schemas line.step) script.lines
   pub numbers : LinesRise script.lines
 
--- 1 to 16 tables, 1 to 8 replicas and up to 64 sessions; on each node a table for each schema
+-- an actor of a world with so many sessions and replicas, which are numbered from 1. A replica has one
+-- worker.
+abbrev pub IsActor : ℕ → ℕ → Actor → Type 0
+IsActor sessions replicas (Session session) = (1 ≤ session) × (session ≤ sessions)
+IsActor sessions replicas Tool = Unit {0}
+IsActor sessions replicas (Worker replica worker) = (1 ≤ replica) × (replica ≤ replicas) × (worker ≡ 1)
+
+-- it names an actor
+abbrev pub ItemFits : ℕ → ℕ → Item → Type 0
+ItemFits sessions replicas (Turn actor) = IsActor sessions replicas actor
+
+-- 1 to 16 tables, 1 to 8 replicas and up to 64 sessions; on each node a table for each schema;
+-- and a schedule of their turns
 pub record IsWorkload (w : Workload) : Type 0 where
   pub some_table : 1 ≤ length w.schemas.tables
   pub most_tables : length w.schemas.tables ≤ 16
@@ -35,3 +51,4 @@ pub record IsWorkload (w : Workload) : Type 0 where
   pub most_sessions : length w.sessions ≤ 64
   pub scripts : AllByRecursion (ScriptFits w.schemas.tables) w.sessions
   pub each_copied : length w.copies ≡ w.replicas
+  pub schedule : AllByRecursion (ItemFits (length w.sessions) w.replicas) w.schedule

@@ -1,5 +1,5 @@
--- The world of a run, the turns of its actors, and its rounds.
-use Rattle.std.specs.Prelude.{ℕ, ◌≡◌, ◌+◌, ◌-◌, ◌==◌, suc, zero, nat_lt, Bool, false, is_some, cond, ◌++◌, option_map, List, [], ◌∷◌, Option, None, Some, length, map, slice_set, unwrap_or, option_and_then}
+-- The world of a run, the turns of its actors, the schedule and the rounds.
+use Rattle.std.specs.Prelude.{ℕ, ◌≡◌, ◌+◌, ◌-◌, ◌==◌, suc, zero, nat_lt, cond, ◌++◌, option_map, List, [], ◌∷◌, Option, None, Some, length, drop, map, slice_set, unwrap_or, option_and_then}
 use Rattle.std.specs.List.{slice_get, AllByRecursion}
 use Rattle.row_types.specs.declared.values.Value.{Value}
 use Rattle.row_types.specs.declared.edges.Edge.TheVariants.{Low, High}
@@ -7,43 +7,34 @@ use Rattle.row_types.specs.declared.edges.Span.{Span}
 use Rattle.row_types.specs.declared.digests.DigestKind.TheVariants.{Md5}
 use Rattle.row_types.specs.declared.table_schema.Schema.{Schema}
 use Rattle.ptc_statement.specs.declared.statements.Statement.{Statement}
-use Rattle.ptc_statement.specs.declared.statements.Statement.TheVariants.{Insert, Delete, Update, Check as CheckStatement, SetMaster, ClearChecks}
-use Rattle.ptc_statement.specs.declared.scripts.Script.{Script}
-use Rattle.ptc_statement.specs.declared.scripts.ScriptLine.{ScriptLine}
-use Rattle.ptc_statement.specs.declared.scripts.ScriptStep.{ScriptStep}
-use Rattle.ptc_statement.specs.declared.scripts.ScriptStep.TheVariants.{Run}
-use Rattle.history.specs.declared.entries.Origin.TheVariants.{Session, Checksum}
+use Rattle.ptc_statement.specs.declared.statements.Statement.TheVariants.{Check as CheckStatement, SetMaster, ClearChecks}
+use Rattle.history.specs.declared.entries.Origin.TheVariants.{Checksum}
 use Rattle.history.specs.declared.entries.Entry.{Entry}
 use Rattle.history.specs.declared.checks.CheckRow.{CheckRow}
 use Rattle.history.specs.Checks.{check_at}
 use Rattle.history.specs.Replay.{applied_of, applying}
-use Rattle.cluster_core.specs.Node.{NodeView, replayed_of, logged, row_on}
+use Rattle.cluster_core.specs.Node.{NodeView, replayed_of, logged}
+use Rattle.cluster_core.specs.Sessions.{SessionView, unstarted, line_left}
 use Rattle.cluster_core.specs.declared.workload.Workload.{Workload}
 use Rattle.cluster_core.specs.declared.actors.Actor.{Actor}
-use Rattle.cluster_core.specs.declared.actors.Actor.TheVariants.{Session as SessionActor, Tool, Worker}
+use Rattle.cluster_core.specs.declared.actors.Actor.TheVariants.{Session, Tool, Worker}
 use Rattle.cluster_core.specs.declared.actors.ToolPhase.{ToolPhase}
 use Rattle.cluster_core.specs.declared.actors.ToolPhase.TheVariants.{Clear, Check, Master, Finished}
+use Rattle.cluster_core.specs.declared.schedule.Item.{Item}
+use Rattle.cluster_core.specs.declared.schedule.Item.TheVariants.{Turn}
 
--- a session: its script, how many of its lines are done, and the numbers of the lines that were
--- refused as duplicates
-pub record SessionView : Type 0 where
-  pub script : List ScriptLine
-  pub next : ℕ
-  pub refused : List ℕ
-
--- the source, the replicas and the sessions by rising number, and what the checksum tool does next
+-- the source, the replicas and the sessions by rising number, what the checksum tool does next, and
+-- the items of the schedule that are not played yet
 pub record WorldView : Type 0 where
   pub source : NodeView
   pub replicas : List NodeView
   pub sessions : List SessionView
   pub phase : ToolPhase
+  pub unplayed : List Item
 
 -- a node before anything happened
 abbrev pub fresh : List Schema → List (List (List Value)) → NodeView
 fresh schemas start = record { schemas = schemas; start = start; history = [] }
-
-abbrev pub unstarted : Script → SessionView
-unstarted script = record { script = script.lines; next = 0; refused = [] }
 
 -- the world of a workload before anything happened
 abbrev pub begun : Workload → WorldView
@@ -52,40 +43,15 @@ begun w = record {
   replicas = map (fresh w.schemas.tables) w.copies;
   sessions = map unstarted w.sessions;
   phase = Clear 0;
+  unplayed = w.schedule;
 }
 
--- an INSERT whose key is there
-abbrev pub is_duplicate : NodeView → Statement → Bool
-is_duplicate node (Insert table row) = is_some (row_on node table row)
-is_duplicate node (Delete table where_true) = false
-is_duplicate node (Update table sets where_true) = false
-is_duplicate node (CheckStatement table chunk span kind) = false
-is_duplicate node (SetMaster table chunk kind master) = false
-is_duplicate node (ClearChecks table) = false
+-- a session and the source after the session's turn, in their places
+abbrev pub with_session : ℕ → SessionView × NodeView → WorldView → WorldView
+with_session session after w = record w { source = after.1; sessions = slice_set w.sessions (session - 1) after.0 }
 
--- an entry of a session: one statement is a transaction of its own
-abbrev pub by_session : ℕ → Statement → Entry
-by_session session statement = record { origin = Session session; statements = statement ∷ [] }
-
-abbrev pub with_session : ℕ → SessionView → WorldView → WorldView
-with_session session view w = record w { sessions = slice_set w.sessions (session - 1) view }
-
--- a line done: its statement logged, or refused as a duplicate
-abbrev pub line_logged : ℕ → SessionView → Statement → WorldView → WorldView
-line_logged session view statement w =
-    record (with_session session (record view { next = view.next + 1 }) w) { source = logged w.source (by_session session statement) }
-
-abbrev pub line_refused : ℕ → SessionView → ScriptLine → WorldView → WorldView
-line_refused session view line w =
-    with_session session (record view { next = view.next + 1; refused = view.refused ++ line.line ∷ [] }) w
-
-abbrev pub step_done : ℕ → SessionView → ScriptLine → ScriptStep → WorldView → WorldView
-step_done session view line (Run statement) w =
-    cond (is_duplicate w.source statement) (line_refused session view line w) (line_logged session view statement w)
-
--- the next line of a script, done whole; still at the script's end
 abbrev pub line_turn : ℕ → SessionView → WorldView → Option WorldView
-line_turn session view w = option_map (λ (line : ScriptLine). step_done session view line line.step w) (slice_get view.script view.next)
+line_turn session view w = option_map (λ (after : SessionView × NodeView). with_session session after w) (line_left session view w.source)
 
 -- the turn of a session. Sessions are numbered from 1.
 abbrev pub session_turn : ℕ → WorldView → Option WorldView
@@ -138,33 +104,41 @@ worker_turn replica w =
 -- one turn of an actor; none where it can't move. Replicas are numbered from 1, and each has one
 -- worker.
 abbrev pub turn : Actor → WorldView → Option WorldView
-turn (SessionActor session) w = session_turn session w
+turn (Session session) w = session_turn session w
 turn Tool w = tool_turn w
 turn (Worker replica worker) w = cond (worker == 1) (worker_turn replica w) None
 
--- the world after an actor's turn
-abbrev pub after : Actor → WorldView → WorldView
-after actor w = unwrap_or (turn actor w) w
+-- a move: what an item does; none where it moves nothing
+abbrev pub move : Item → WorldView → Option WorldView
+move (Turn actor) w = turn actor w
 
-abbrev pub after_turns : List Actor → WorldView → WorldView
-after_turns [] w = w
-after_turns (actor ∷ actors) w = after_turns actors (after actor w)
+abbrev pub behind_item : WorldView → WorldView
+behind_item w = record w { unplayed = drop 1 w.unplayed }
 
-abbrev pub workers_from : ℕ → List NodeView → List Actor
+-- an item is played, whether it moves or not: one less is left of the schedule
+abbrev pub step : Item → WorldView → WorldView
+step item w = behind_item (unwrap_or (move item w) w)
+
+-- the world after these items
+abbrev pub played : List Item → WorldView → WorldView
+played [] w = w
+played (item ∷ items) w = played items (step item w)
+
+abbrev pub workers_from : ℕ → List NodeView → List Item
 workers_from number [] = []
-workers_from number (node ∷ nodes) = Worker number 1 ∷ workers_from (number + 1) nodes
+workers_from number (node ∷ nodes) = Turn (Worker number 1) ∷ workers_from (number + 1) nodes
 
-abbrev pub sessions_from : ℕ → List SessionView → List Actor
+abbrev pub sessions_from : ℕ → List SessionView → List Item
 sessions_from number [] = []
-sessions_from number (view ∷ views) = SessionActor number ∷ sessions_from (number + 1) views
+sessions_from number (view ∷ views) = Turn (Session number) ∷ sessions_from (number + 1) views
 
--- the actors of a round, in order: the sessions, the tool, then each replica's worker
-abbrev pub order : WorldView → List Actor
-order w = sessions_from 1 w.sessions ++ Tool ∷ workers_from 1 w.replicas
+-- the turns of a round, in order: the sessions, the tool, then each replica's worker
+abbrev pub order : WorldView → List Item
+order w = sessions_from 1 w.sessions ++ Turn Tool ∷ workers_from 1 w.replicas
 
 -- a round: each actor takes one turn
 abbrev pub round : WorldView → WorldView
-round w = after_turns (order w) w
+round w = played (order w) w
 
 abbrev pub rounds : ℕ → WorldView → WorldView
 rounds zero w = w
@@ -172,15 +146,17 @@ rounds (suc n) w = rounds n (round w)
 
 -- nobody can move
 abbrev pub IsStill : WorldView → Type 0
-IsStill w = AllByRecursion (λ actor. turn actor w ≡ None) (order w)
+IsStill w = AllByRecursion (λ item. move item w ≡ None) (order w)
 
--- a run: rounds, until nobody can move
+-- a run: the schedule, and then rounds, until nobody can move
 pub record EndsIn (first last : WorldView) : Type 0 where
   pub count : ℕ
-  pub reached : last ≡ rounds count first
+  pub reached : last ≡ rounds count (played first.unplayed first)
   pub still : IsStill last
 
--- whole turns alone lead from one world to the other
+-- items alone lead from one world to the other: those of the schedule, as far as it goes, and then more
 pub record Reaches (first last : WorldView) : Type 0 where
-  pub turns : List Actor
-  pub reached : last ≡ after_turns turns first
+  pub items : List Item
+  pub more : List Item
+  pub schedule_first : first.unplayed ++ more ≡ items ++ last.unplayed
+  pub reached : last ≡ played items first

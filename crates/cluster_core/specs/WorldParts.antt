@@ -1,12 +1,13 @@
 -- What contracts see of a world's parts, and what its parts keep.
-use Rattle.std.specs.Prelude.{◌≤◌, length}
+use Rattle.std.specs.Prelude.{◌≤◌, length, drop}
 use Rattle.std.specs.List.{AllByRecursion}
 use Rattle.cluster_core.specs.World.{WorldView}
+use Rattle.cluster_core.specs.Turns.{ItemIsNumbered}
 use Rattle.cluster_core.specs.Good.{IsOneFitting, StepsFit, HasSchemas}
 use Rattle.cluster_core.specs.declared.worlds.World.TheInside.{Inside}
 
 abbrev pub world_view : Inside → WorldView
-world_view world = record { source = world.source; replicas = world.replicas.items; sessions = world.sessions.items; phase = world.phase }
+world_view world = record { source = world.source; replicas = world.replicas.items; sessions = world.sessions.items; phase = world.phase; unplayed = drop world.played world.schedule }
 
 pub record IsKept (world : Inside) : Type 0 where
   pub tables : length world.source.schemas ≤ 16
@@ -16,3 +17,4 @@ pub record IsKept (world : Inside) : Type 0 where
   pub schemas : AllByRecursion (HasSchemas world.source.schemas) world.replicas.items
   pub log : AllByRecursion (IsOneFitting world.source.schemas) world.source.history
   pub scripts : AllByRecursion (StepsFit world.source.schemas) world.sessions.items
+  pub schedule : AllByRecursion ItemIsNumbered world.schedule

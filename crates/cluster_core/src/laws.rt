@@ -1,10 +1,12 @@
-ghost use Rattle.std.specs.Prelude.{◌≡◌};
+ghost use Rattle.std.specs.Prelude.{◌≡◌, ◌≤◌, List};
 ghost use Rattle.cluster_core.specs.Headline.{RunHolds};
 ghost use Rattle.cluster_core.specs.Workload.{IsWorkload};
 ghost use Rattle.cluster_core.specs.World.{WorldView, begun, EndsIn};
+ghost use Rattle.cluster_core.specs.Turns.{moves_of, most_moves};
+ghost use Rattle.cluster_core.specs.declared.schedule.Item.{Item};
 ghost use Rattle.cluster_core.specs.declared.workload.Workload.{Workload};
 
-/// Whatever workload a run begins from, at its end each replica applied the whole log, each session's
+/// Whatever workload a run begins from, and whatever its schedule, at its end each replica applied the whole log, each session's
 /// entries of the log are its script's statements without its duplicates, each published checksum is
 /// the source's own, and each verdict compares the source's and the replica's rows of its chunk at
 /// one position of the log; no table of any replica is passed over.
@@ -15,4 +17,10 @@ pub fn each_run_holds()
 /// A run has one end, so its report and its status are determined.
 pub fn each_run_has_one_end()
     ensures { (first last other : WorldView) → EndsIn first last → EndsIn first other → last ≡ other }
+{}
+
+/// However turns follow each other, a workload makes no more moves than the tool's three and one for
+/// each line of a script, each of them once on the source and once on each replica.
+pub fn moves_are_bounded()
+    ensures { (workload : Workload) (items : List Item) → IsWorkload workload → moves_of items (begun workload) ≤ most_moves workload }
 {}

@@ -5,8 +5,8 @@ ghost use Rattle.cluster_core.specs.Good.{StepsFit};
 ghost use Rattle.cluster_core.specs.Node.{NodeView};
 ghost use Rattle.cluster_core.specs.Sessions.{line_left};
 ghost use Rattle.cluster_core.specs.Turns.{Takes};
-ghost use Rattle.cluster_core.specs.World.{SessionView, unstarted};
-ghost use Rattle.cluster_core.specs.World.{is_duplicate as is_duplicate_on};
+ghost use Rattle.cluster_core.specs.Sessions.{SessionView, unstarted};
+ghost use Rattle.cluster_core.specs.Sessions.{is_duplicate as is_duplicate_on};
 ghost use Rattle.ptc_statement.specs.Fits.{FitsSchemas};
 
 use crate::nodes::Node;
@@ -26,7 +26,7 @@ pub struct Session {
 }
 
 impl Model for Session {
-    ghost use Rattle.cluster_core.specs.World.{SessionView};
+    ghost use Rattle.cluster_core.specs.Sessions.{SessionView};
 
     ghost Value = { SessionView };
 

@@ -1,12 +1,13 @@
 ghost use Rattle.std.specs.Prelude.{◌≡◌, ◌<◌, ◌^◌, ◌↔◌, List, [], ◌∷◌, ◌++◌, ℕ, length, IsTrue, IfOk, OnOk, OnErr};
 
+use crate::schedule::Schedule;
 use ptc_statement::Scripts;
 use row_types::{R, Schemas, Tables};
 use std::alloc::Global;
 use std::marker::Model;
 
 /// What a run begins from: the schemas, the rows of each table on the source and on each of the
-/// replicas, by rising key, and the scripts of the sessions.
+/// replicas, by rising key, the scripts of the sessions, and the turns that are taken first.
 #[derive(Debug, Drop)]
 pub struct Workload {
     pub schemas: Schemas,
@@ -14,6 +15,7 @@ pub struct Workload {
     pub source: Tables,
     pub copies: Copies,
     pub sessions: Scripts,
+    pub schedule: Schedule,
 }
 
 /// The tables of each replica, by rising number.
@@ -105,6 +107,7 @@ impl Workload {
             source: self.source.copy(alloc)?,
             copies: self.copies.copy(alloc)?,
             sessions: self.sessions.copy(alloc)?,
+            schedule: self.schedule.copy(alloc)?,
         })
     }
 
@@ -116,5 +119,6 @@ impl Workload {
             && self.source.same(&other.source)
             && self.copies.same(&other.copies)
             && self.sessions.same(&other.sessions)
+            && self.schedule.same(&other.schedule)
     }
 }

@@ -1,15 +1,16 @@
-ghost use Rattle.std.specs.Prelude.{◌≡◌, ◌<◌, ◌≤◌, ◌↔◌, ◌++◌, [], ◌∷◌, IsTrue, IfOk, OnOk, OnErr, None, Some, is_some, unwrap_or, map};
-ghost use Rattle.std.specs.List.{AllByRecursion};
+ghost use Rattle.std.specs.Prelude.{◌≡◌, ◌<◌, ◌≤◌, ◌↔◌, ◌++◌, [], ◌∷◌, IsTrue, IfOk, OnOk, OnErr, None, Some, is_some, unwrap_or, map, IfSome};
+ghost use Rattle.std.specs.List.{AllByRecursion, slice_get};
 ghost use Rattle.row_types.specs.Fit.{IsSchema, AreTables};
 ghost use Rattle.history.specs.Checks.{check_at};
 ghost use Rattle.cluster_core.specs.Node.{replayed_of};
 ghost use Rattle.cluster_core.specs.Workload.{IsWorkload};
-ghost use Rattle.cluster_core.specs.World.{begun, fresh, unstarted, session_turn, sessions_from, turn, tool_turn, worker_turn, tool_logged, published, next_phase, next_applied, order, EndsIn, Reaches};
+ghost use Rattle.cluster_core.specs.Sessions.{unstarted};
+ghost use Rattle.cluster_core.specs.World.{begun, fresh, session_turn, sessions_from, turn, tool_turn, worker_turn, tool_logged, published, next_phase, next_applied, behind_item, played, order, EndsIn, Reaches};
 ghost use Rattle.cluster_core.specs.Report.{report_of, status_of, starts_text, histories_text, verdicts_text, finals_text};
 ghost use Rattle.cluster_core.specs.Good.{IsOneFitting};
 ghost use Rattle.ptc_statement.specs.Fits.{StatementFits};
 ghost use Rattle.row_types.specs.declared.table_schema.Schema.{Schema};
-ghost use Rattle.cluster_core.specs.Turns.{IsNumbered, Takes, TookTurns};
+ghost use Rattle.cluster_core.specs.Turns.{IsNumbered, ItemIsNumbered, Takes, Plays, TookTurns};
 
 use crate::actors::{Actor, ToolPhase};
 use crate::nodes::Node;
@@ -18,6 +19,7 @@ use crate::report_nodes::{
     push_each_duplicate, push_each_equal, push_each_final, push_each_history, push_each_start,
     push_each_verdict,
 };
+use crate::schedule::{Item, Schedule};
 use crate::sessions::Session;
 use crate::workload::Workload;
 use history::{Entries, Origin};
@@ -26,14 +28,17 @@ use row_types::{Bytes, DigestKind, R, Schemas, Span, Tables};
 use std::alloc::Global;
 use std::marker::Model;
 
-/// A source, its replicas, the clients' sessions and the checksum tool. Each turn does one whole statement or applies one
-/// whole entry.
+/// A source, its replicas, the clients' sessions and the checksum tool, and a schedule of their turns
+/// with how many of its items are played. Each turn does one whole statement or applies one whole
+/// entry.
 #[derive(Drop)]
 pub struct World {
     source: Node,
     replicas: Vec<Node>,
     sessions: Vec<Session>,
     phase: ToolPhase,
+    schedule: Schedule,
+    played: usize,
     alloc: Global,
 }
 
@@ -85,6 +90,7 @@ impl World {
             source,
             copies,
             sessions,
+            schedule,
         } = workload;
         let replicas = fresh_nodes(alloc, &schemas, copies.items)?;
         let sessions = fresh_sessions(alloc, sessions.items)?;
@@ -93,30 +99,32 @@ impl World {
             replicas,
             sessions,
             phase: ToolPhase::Clear { table: 0 },
+            schedule,
+            played: 0,
             alloc,
         })
     }
 
-    /// One turn of an actor: whether it moved. A refusal leaves the world as it was.
-    pub fn turn(&mut self, actor: Actor) -> R<bool>
-        requires { IsNumbered actor }
-        ensures ok { IfOk result (λ moved. Takes (turn actor self.old) moved self.old self.new) }
+    /// Plays an item: whether it moved. An item that names nobody moves nothing. Items are taken off
+    /// the schedule as long as there are some. A refusal leaves the world as it was.
+    pub fn step(&mut self, item: Item) -> R<bool>
+        requires { ItemIsNumbered item }
+        ensures ok { IfOk result (λ moved. Plays item moved self.old self.new) }
         ensures err { OnErr result (self.new ≡ self.old) }
     {
-        match actor {
-            Actor::Session(session) => self.session_turn(session),
-            Actor::Tool => self.tool_turn(),
-            Actor::Worker { replica, worker: 1 } => self.worker_turn(replica),
-            Actor::Worker { .. } => Ok(false),
-        }
+        let Item::Turn(actor) = item;
+        let moved = self.turn(actor)?;
+        self.count_item();
+        Ok(moved)
     }
 
-    /// Rounds, in which each actor takes one turn, until nobody can move. A refusal leaves the world
-    /// after some of these turns.
+    /// What is left of the schedule, and then rounds, in which each actor takes one turn, until nobody
+    /// can move. A refusal leaves the world after some of these turns.
     pub fn run(&mut self) -> R<()>
         ensures ok { OnOk result (EndsIn self.old self.new) }
         ensures err { OnErr result (Reaches self.old self.new) }
     {
+        self.play_schedule()?;
         'rounds: loop {
             if !self.round()? {
                 return Ok(());
@@ -204,21 +212,50 @@ impl World {
         push_each_equal(self.alloc, out, schemas, self.source.live(), replicas)
     }
 
+    /// Plays the rest of the schedule.
+    fn play_schedule(&mut self) -> R<()>
+        ensures ok { OnOk result (self.new ≡ played self.old.unplayed self.old) }
+        ensures all { OnOk result (self.new.unplayed ≡ []) }
+        ensures err { OnErr result (Reaches self.old self.new) }
+    {
+        while let Some(item) = self.next_item() {
+            self.step(item)?;
+        }
+        Ok(())
+    }
+
+    fn next_item(&self) -> Option<Item>
+        ensures next { result ≡ slice_get self.now.unplayed 0 }
+        ensures numbered { IfSome result ItemIsNumbered }
+    {
+        self.schedule.as_slice().get(self.played).copied()
+    }
+
+    /// One item less is left of the schedule, if one was.
+    fn count_item(&mut self)
+        ensures { self.new ≡ behind_item self.old }
+    {
+        if self.played < self.schedule.len() {
+            self.played += 1;
+        }
+    }
+
     /// One turn of each actor: whether one of them moved.
     fn round(&mut self) -> R<bool>
+        requires { self.old.unplayed ≡ [] }
         ensures ok { IfOk result (λ moved. TookTurns self.old self.new (order self.old) moved) }
         ensures err { OnErr result (Reaches self.old self.new) }
     {
         let replicas = self.replicas.len() as u32;
         let mut moved = self.session_turns()?;
-        let step = self.turn(Actor::Tool)?;
+        let step = self.step(Item::Turn(Actor::Tool))?;
         moved = moved | step;
         for place in 0..replicas {
-            let actor = Actor::Worker {
+            let worker = Actor::Worker {
                 replica: place + 1,
                 worker: 1,
             };
-            let step = self.turn(actor)?;
+            let step = self.step(Item::Turn(worker))?;
             moved = moved | step;
         }
         Ok(moved)
@@ -226,16 +263,31 @@ impl World {
 
     /// One turn of each session: whether one of them moved.
     fn session_turns(&mut self) -> R<bool>
+        requires { self.old.unplayed ≡ [] }
         ensures ok { IfOk result (λ moved. TookTurns self.old self.new (sessions_from 1 self.old.sessions) moved) }
         ensures err { OnErr result (Reaches self.old self.new) }
     {
         let sessions = self.sessions.len() as u32;
         let mut moved = false;
         for place in 0..sessions {
-            let step = self.turn(Actor::Session(place + 1))?;
+            let step = self.step(Item::Turn(Actor::Session(place + 1)))?;
             moved = moved | step;
         }
         Ok(moved)
+    }
+
+    /// One turn of an actor: whether it moved.
+    fn turn(&mut self, actor: Actor) -> R<bool>
+        requires { IsNumbered actor }
+        ensures ok { IfOk result (λ moved. Takes (turn actor self.old) moved self.old self.new) }
+        ensures err { OnErr result (self.new ≡ self.old) }
+    {
+        match actor {
+            Actor::Session(session) => self.session_turn(session),
+            Actor::Tool => self.tool_turn(),
+            Actor::Worker { replica, worker: 1 } => self.worker_turn(replica),
+            Actor::Worker { .. } => Ok(false),
+        }
     }
 
     fn session_turn(&mut self, session: u32) -> R<bool>

@@ -2,10 +2,12 @@ pub mod LineLemmas
 pub mod NumberLemmas
 pub mod RowLemmas
 pub mod ScriptLemmas
+pub mod ScheduleLemmas
 pub mod ListLemmas
 pub mod TableLemmas
 pub mod WorkloadLemmas
 pub mod DueLemmas
+pub mod FrontLemmas
 pub mod FormLemmas
 pub mod KeepLemmas
 pub mod ReadLemmas

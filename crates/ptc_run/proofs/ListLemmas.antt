@@ -56,11 +56,11 @@ pub record Longer (X : Type 0) (line : X → List ℕ) (xs ys : List X) (left : 
   pub longer : ys ≡ xs ++ item ∷ others
   pub is_line : left ≡ line item ∷ rest
 
-pub items_match : {X : Type 0} (line : X → List ℕ) (P : X → Type 0) → ((x y : X) → P x → P y → line x ≡ line y → x ≡ y) → (xs ys : List X) (left right : List (List ℕ)) → AllByRecursion P xs → AllByRecursion P ys → ((x : X) (rest : List (List ℕ)) → right ≡ line x ∷ rest → ⊥) → map line xs ++ left ≡ map line ys ++ right
+pub items_match : {X : Type 0} (line : X → List ℕ) (P : X → Type 0) → ((x y : X) → P x → P y → line x ≡ line y → x ≡ y) → (xs ys : List X) (left right : List (List ℕ)) → AllByRecursion P xs → AllByRecursion P ys → ((x : X) (rest : List (List ℕ)) → P x → right ≡ line x ∷ rest → ⊥) → map line xs ++ left ≡ map line ys ++ right
     → ((ys ≡ xs) × (left ≡ right)) ⊎ Longer X line xs ys left
 items_match line P once [] [] left right f g never e = inl (refl, e)
 items_match line P once [] (y ∷ ys) left right f g never e = inr (record { item = y; others = ys; rest = map line ys ++ right; longer = refl; is_line = e })
-items_match line P once (x ∷ xs) [] left right f g never e = absurd (never x (map line xs ++ left) (sym e))
+items_match line P once (x ∷ xs) [] left right f g never e = absurd (never x (map line xs ++ left) f.0 (sym e))
 items_match {X} line P once (x ∷ xs) (y ∷ ys) left right f g never e =
     let heads : line x ≡ line y = cc in
     let tails : map line xs ++ left ≡ map line ys ++ right = cc in

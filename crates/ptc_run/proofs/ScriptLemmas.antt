@@ -34,27 +34,27 @@ delete_is key = refl
 
 -- ---- the first letters
 
-insert_first : (key value : ℤ) → first (script_line (Insert key value)) ≡ 73
+pub insert_first : (key value : ℤ) → first (script_line (Insert key value)) ≡ 73
 insert_first key value = ap first (insert_is key value)
 
-update_first : (key value : ℤ) → first (script_line (Update key value)) ≡ 85
+pub update_first : (key value : ℤ) → first (script_line (Update key value)) ≡ 85
 update_first key value = ap first (update_is key value)
 
-delete_first : (key : ℤ) → first (script_line (Delete key)) ≡ 68
+pub delete_first : (key : ℤ) → first (script_line (Delete key)) ≡ 68
 delete_first key = ap first (delete_is key)
 
-differ : (x y : List ℕ) (a b : ℕ) → first x ≡ a → first y ≡ b → (a ≡ b → ⊥) → x ≡ y → ⊥
+pub differ : (x y : List ℕ) (a b : ℕ) → first x ≡ a → first y ≡ b → (a ≡ b → ⊥) → x ≡ y → ⊥
 differ x y a b f g ne e = ne (sym f ∙ ap first e ∙ g)
 
-end_first : first end_line ≡ 69
+pub end_first : first end_line ≡ 69
 unfolding end_line
 end_first = refl
 
-session_first : first session_line ≡ 83
+pub session_first : first session_line ≡ 83
 unfolding session_line
 session_first = refl
 
-row_first : (row : RowLine) → first (row_line row) ≡ 82
+pub row_first : (row : RowLine) → first (row_line row) ≡ 82
 row_first row = ap first (row_line_is row)
 
 pub session_not_end : session_line ≡ end_line → ⊥

@@ -1,15 +1,15 @@
--- The workload of allowed rows and an allowed script keeps the rules.
-use Rattle.std.proofs.Common.{◌≡◌, ◌<◌, ◌≤◌, ◌+◌, ℕ, ℤ, Option, None, Some, true, arith, List, [], ◌∷◌, map, length, refl, sym, ap, subst, ◌∙◌, Ordering, Less, Equal, Greater, int_cmp, FitsSigned, w64, lit≤}
+-- The workload of allowed rows, an allowed script and an allowed schedule keeps the rules.
+use Rattle.std.proofs.Common.{◌≡◌, ◌<◌, ◌≤◌, ◌+◌, ℕ, ℤ, Option, None, Some, true, false, arith, List, [], ◌∷◌, map, length, refl, sym, ap, subst, ◌∙◌, Ordering, Less, Equal, Greater, int_cmp, FitsSigned, w64, lit≤}
 use Rattle.std.specs.Ordering.{match_ordering, ordering_then, ordering_reverse}
 use Rattle.std.specs.List.{AllByRecursion, slice_get}
-use Rattle.std.specs.Prelude.{codes}
+use Rattle.std.specs.Prelude.{codes, is_some}
 use Rattle.std.specs.BTreeMap.{insert_entry}
 use Rattle.std.specs.Cmp.{int_cmp_total}
 use Rattle.row_types.specs.declared.values.Value.{Value}
 use Rattle.row_types.specs.declared.values.Value.TheVariants.{Int}
 use Rattle.row_types.specs.Fit.{with_rows, IsTable, IsBelowAll, IsSchema}
 use Rattle.cluster_core.specs.declared.workload.Workload.{Workload}
-use Rattle.cluster_core.specs.Workload.{IsWorkload, ScriptFits, StepFits, LinesRise}
+use Rattle.cluster_core.specs.Workload.{IsWorkload, ScriptFits, StepFits, LinesRise, ItemFits}
 use Rattle.row_types.specs.declared.table_schema.Schema.{Schema}
 use Rattle.row_types.specs.declared.table_schema.ColumnKind.TheVariants.{BigInt}
 use Rattle.ptc_statement.specs.declared.scripts.ScriptLine.{ScriptLine}
@@ -18,12 +18,15 @@ use Rattle.ptc_statement.specs.Fits.{IsClients, FitsSchemas, StatementFits}
 use Rattle.ptc_run.specs.declared.script_lines.ScriptText.{ScriptText}
 use Rattle.ptc_run.specs.declared.script_lines.ScriptText.TheVariants.{Insert, Update, Delete}
 use Rattle.ptc_run.specs.ScriptLines.{NumbersFitScript, AllowedScript, statement_of, numbered, sessions_of}
+use Rattle.ptc_run.specs.declared.schedule_lines.ScheduleWord.{ScheduleWord}
+use Rattle.ptc_run.specs.declared.schedule_lines.ScheduleWord.TheVariants.{Session, Tool, Worker}
+use Rattle.ptc_run.specs.ScheduleLines.{AllowedWord, AllowedWords, AllowedSchedule, item_of, items_of, schedule_of}
 use Rattle.std.proofs.lemmas.Option.{same_Some}
 use Rattle.ptc_run.specs.declared.row_lines.RowLine.{RowLine}
 use Rattle.ptc_run.specs.RowLines.{NumbersFit, is_for_source, is_for_replica}
 use Rattle.ptc_run.specs.FirstForm.{first_schema, values_of, table_of, source_rows, replica_rows, workload_of, Allowed, IsWorkloadText}
 use Rattle.ptc_run.specs.KeptRows.{entry_values}
-use Rattle.ptc_run.proofs.ListLemmas.{all_weaker, all_filter}
+use Rattle.ptc_run.proofs.ListLemmas.{all_append, all_weaker, all_filter}
 use Rattle.ptc_run.proofs.TableLemmas.{insert_is}
 
 -- rows of two numbers as entries, put in one after the other
@@ -142,10 +145,27 @@ scripts_fit : (script : Option (List ScriptText)) (number : ℕ) → AllowedScri
 scripts_fit None number f = tt
 scripts_fit (Some texts) number f = (record { steps = steps_fit texts number f; numbers = lines_rise texts number }, tt)
 
+-- ---- the schedule
+
+word_fits : (script : Option (List ScriptText)) (number : ℕ) (word : ScheduleWord) → AllowedWord (is_some script) word → ItemFits (length (sessions_of number script)) 1 (item_of word)
+word_fits None number Session f = absurd (let no : false ≡ true = f in cc)
+word_fits (Some texts) number Session f = (lit≤ tt, lit≤ tt)
+word_fits script number Tool f = tt
+word_fits script number Worker f = (lit≤ tt, lit≤ tt, refl)
+
+words_fit : (script : Option (List ScriptText)) (number : ℕ) (words : List ScheduleWord) → AllowedWords (is_some script) words → AllByRecursion (ItemFits (length (sessions_of number script)) 1) (items_of words)
+words_fit script number [] f = tt
+words_fit script number (word ∷ words) f = (word_fits script number word f.0, words_fit script number words f.1)
+
+schedule_fits : (script : Option (List ScriptText)) (number : ℕ) (schedule : List (List ScheduleWord)) → AllowedSchedule (is_some script) schedule → AllByRecursion (ItemFits (length (sessions_of number script)) 1) (schedule_of schedule)
+schedule_fits script number [] f = tt
+schedule_fits script number (words ∷ schedule) f =
+    all_append (ItemFits (length (sessions_of number script)) 1) (items_of words) (schedule_of schedule) (words_fit script number words f.0) (schedule_fits script number schedule f.1)
+
 -- ---- the workload
 
-pub workload_of-IsWorkload : (rows : List RowLine) (script : Option (List ScriptText)) → Allowed rows script → IsWorkload (workload_of rows script)
-workload_of-IsWorkload rows script h = record {
+pub workload_of-IsWorkload : (rows : List RowLine) (script : Option (List ScriptText)) (schedule : List (List ScheduleWord)) → Allowed rows script schedule → IsWorkload (workload_of rows script schedule)
+workload_of-IsWorkload rows script schedule h = record {
   some_table = lit≤ tt;
   most_tables = lit≤ tt;
   schemas = (first_schema-IsSchema, tt);
@@ -156,7 +176,8 @@ workload_of-IsWorkload rows script h = record {
   most_sessions = few_sessions script (length rows + 5);
   scripts = scripts_fit script (length rows + 5) h.of_script;
   each_copied = refl;
+  schedule = schedule_fits script (length rows + 5) schedule h.of_schedule;
 }
 
 pub text-IsWorkload : (bytes : List ℕ) (w : Workload) → IsWorkloadText bytes w → IsWorkload w
-text-IsWorkload bytes w h = subst IsWorkload (sym h.workload) (workload_of-IsWorkload h.rows h.script h.allowed)
+text-IsWorkload bytes w h = subst IsWorkload (sym h.workload) (workload_of-IsWorkload h.rows h.script h.schedule h.allowed)

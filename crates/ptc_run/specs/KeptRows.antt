@@ -1,4 +1,4 @@
--- The rows of a node and the scripts as they are kept while the file is read.
+-- The rows of a node, the scripts and the schedule as they are kept while the file is read.
 use Rattle.std.specs.Prelude.{◌≡◌, ◌<◌, ◌⊎◌, ℕ, ℤ, List, [], ◌∷◌, ◌++◌, ◌+◌, Option, None, IsSome, IsTrue, map, length}
 use Rattle.std.specs.Ordering.{int_cmp}
 use Rattle.std.specs.BTreeMap.{BTreeMap, get}
@@ -8,11 +8,14 @@ use Rattle.ptc_run.specs.declared.row_lines.RowLine.{RowLine}
 use Rattle.ptc_run.specs.declared.kept_rows.Nodes.{Nodes}
 use Rattle.ptc_run.specs.declared.first_form.Parts.{Parts}
 use Rattle.ptc_run.specs.declared.script_lines.ScriptText.{ScriptText}
+use Rattle.ptc_run.specs.declared.schedule_lines.ScheduleWord.{ScheduleWord}
 use Rattle.ptc_statement.specs.declared.scripts.Script.{Script}
+use Rattle.cluster_core.specs.declared.schedule.Item.{Item}
 use Rattle.ptc_run.specs.Lines.{lines_of}
 use Rattle.ptc_run.specs.RowLines.{row_line, is_for_source, is_for_replica}
 use Rattle.cluster_core.specs.declared.workload.Workload.{Workload}
 use Rattle.ptc_run.specs.ScriptLines.{sessions_of}
+use Rattle.ptc_run.specs.ScheduleLines.{schedule_of}
 use Rattle.ptc_run.specs.FirstForm.{first_schema, text_lines, keys_of, table_of, source_rows, replica_rows, IsNotAmong, AllowedRows, Allowed}
 
 abbrev pub entry_values : ℤ × ℤ → List Value
@@ -63,21 +66,24 @@ pub record RowsRead (bytes : List ℕ) (nodes : Nodes) (rest : List ℕ) (count 
   pub ends : EndsRows rows (lines_of rest)
   pub counted : count ≡ length rows
 
--- the rows and the scripts of a whole file
+-- the rows, the scripts and the schedule of a whole file
 pub record PartsRead (bytes : List ℕ) (parts : Parts) : Type 0 where
   pub rows : List RowLine
   pub script : Option (List ScriptText)
-  pub allowed : Allowed rows script
+  pub schedule : List (List ScheduleWord)
+  pub allowed : Allowed rows script schedule
   pub keeps : KeepsBoth parts.nodes rows
   pub sessions : parts.sessions ≡ sessions_of (length rows + 5) script
-  pub lines : lines_of bytes ≡ text_lines rows script
+  pub items : parts.schedule ≡ schedule_of schedule
+  pub lines : lines_of bytes ≡ text_lines rows script schedule
 
--- the workload with the rows of the maps, and these scripts
-abbrev pub workload_in : Nodes → List Script → Workload
-workload_in nodes sessions = record {
+-- the workload with the rows of the maps, these scripts and this schedule
+abbrev pub workload_in : Nodes → List Script → List Item → Workload
+workload_in nodes sessions schedule = record {
   schemas = record { tables = first_schema ∷ [] };
   replicas = 1;
   source = rows_in nodes.source ∷ [];
   copies = (rows_in nodes.replica ∷ []) ∷ [];
   sessions = sessions;
+  schedule = schedule;
 }

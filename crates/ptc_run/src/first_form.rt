@@ -13,8 +13,9 @@ ghost use Rattle.ptc_run.specs.Faults.{IsFaultOf};
 
 use crate::kept_rows::{Nodes, rows_from};
 use crate::line_cuts::behind_line;
+use crate::schedule_lines::read_schedule;
 use crate::script_lines::read_sessions;
-use cluster_core::{Copies, Workload};
+use cluster_core::{Copies, Schedule, Workload};
 use ptc_statement::Scripts;
 use row_types::{
     Bytes, Column, ColumnKind, Columns, Memory, R, Schema, SchemaList, Schemas, Tables,
@@ -133,11 +134,12 @@ fn read_rows(alloc: Global, bytes: &[u8]) -> R<(Nodes, &[u8], u32)>
     Ok((nodes, rest, count))
 }
 
-/// What a file gives: the rows of the nodes, and the scripts of the sessions.
+/// What a file gives: the rows of the nodes, the scripts of the sessions, and the schedule.
 #[derive(Drop)]
 struct Parts {
     nodes: Nodes,
     sessions: Scripts,
+    schedule: Schedule,
 }
 
 /// The parts of a whole file.
@@ -150,12 +152,18 @@ fn read_parts(alloc: Global, bytes: &[u8]) -> Result<Parts, FileFault>
         Err(number) => return Err(FileFault::Early { number }),
     };
     let (nodes, rest, rows) = read_rows(alloc, rest)?;
-    let (sessions, rest, count) = read_sessions(alloc, rest, rows)?;
+    let (sessions, rest, lines) = read_sessions(alloc, rest, rows)?;
+    let some_session = !sessions.is_empty();
+    let (schedule, rest, count) = read_schedule(alloc, rest, some_session, lines)?;
     match behind_line(rest, b"END\n") {
         None => Err(FileFault::Early { number: count + 4 }),
         Some(rest) => {
             if rest.is_empty() {
-                Ok(Parts { nodes, sessions })
+                Ok(Parts {
+                    nodes,
+                    sessions,
+                    schedule,
+                })
             } else {
                 Err(FileFault::Early { number: count + 5 })
             }
@@ -200,9 +208,13 @@ fn schema(alloc: Global) -> R<Schemas>
 }
 
 fn workload(alloc: Global, parts: Parts) -> R<Workload>
-    ensures { IfOk result (λ w. w ≡ workload_in parts.nodes parts.sessions) }
+    ensures { IfOk result (λ w. w ≡ workload_in parts.nodes parts.sessions parts.schedule) }
 {
-    let Parts { nodes, sessions } = parts;
+    let Parts {
+        nodes,
+        sessions,
+        schedule,
+    } = parts;
     let mut source = Tables::new(alloc);
     source.push(rows_from(alloc, &nodes.source)?)?;
     let mut replica = Tables::new(alloc);
@@ -215,6 +227,7 @@ fn workload(alloc: Global, parts: Parts) -> R<Workload>
         source,
         copies,
         sessions,
+        schedule,
     })
 }
 

@@ -5,6 +5,7 @@ pub mod first_form;
 mod kept_rows;
 mod line_cuts;
 mod row_lines;
+mod schedule_lines;
 mod script_lines;
 pub mod top;
 pub mod words;

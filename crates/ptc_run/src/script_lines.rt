@@ -185,6 +185,7 @@ fn read_statements(alloc: Global, bytes: &[u8], first: u32) -> R<(ScriptLines, &
     requires early { first ≤ 16777221 }
     ensures read { IfOk result (λ read. StatementsRead bytes.now first read.0 read.1.now read.2) }
     ensures few { IfOk result (λ read. read.2 ≤ 16777216) }
+    ensures shorter { IfOk result (λ read. length read.1.now ≤ length bytes.now) }
 {
     let mut script = ScriptLines::new(alloc);
     let mut rest = bytes;
@@ -208,6 +209,7 @@ pub fn read_sessions(alloc: Global, bytes: &[u8], rows: u32) -> R<(Scripts, &[u8
     requires few { rows ≤ 16777216 }
     ensures read { IfOk result (λ read. SessionsRead bytes.now rows read.0 read.1.now read.2) }
     ensures most { IfOk result (λ read. read.2 ≤ 33554433) }
+    ensures shorter { IfOk result (λ read. length read.1.now ≤ length bytes.now) }
 {
     let mut sessions = Scripts::new(alloc);
     match behind_line(bytes, b"SESSION s1\n") {

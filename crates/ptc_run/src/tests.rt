@@ -244,3 +244,126 @@ fn thousand_statements(rt: HostRuntime) -> Result<(), Fail> {
     );
     Ok(())
 }
+
+/// The source and the replica differ, and one UPDATE makes their rows equal: a file with these
+/// SCHEDULE lines.
+fn scheduled(alloc: Global, schedule: &str) -> Result<Vec<u8>, AllocError> {
+    let mut bytes = HEAD.as_bytes().to_vec(alloc)?;
+    bytes.extend_from_slice(b"ROW source t (1, 10)\nROW r1 t (1, 11)\nSESSION s1\n")?;
+    bytes.extend_from_slice(b"UPDATE t SET v = 12 WHERE id = 1\n")?;
+    bytes.extend_from_slice(schedule.as_bytes())?;
+    bytes.extend_from_slice(b"END\n")?;
+    Ok(bytes)
+}
+
+/// The report where the UPDATE stands between CHECKSUM and SETMASTER.
+const BETWEEN: &str =
+    "PTC REPORT 1\nTABLE t (id BIGINT KEY, v BIGINT)\nSTART source t (1, 10)\nSTART r1 t (1, 11)\nLOG 1 c\n  CLEARCHECKS t\nLOG 2 c\n  CHECKSUM t CHUNK 1 FROM LOW TO HIGH USING MD5\nLOG 3 s1\n  UPDATE t SET v = 12 WHERE id = 1\nLOG 4 c\n  SETMASTER t CHUNK 1 CNT 1 CRC 'afd8cf80b4beb688e2c77ac8b94682e4'\nHISTORY r1 applied 1\nHISTORY r1 applied 2\nHISTORY r1 applied 3\nHISTORY r1 applied 4\nVERDICT r1 t 1 FROM LOW TO HIGH AT 2 COUNT 1 1 DIFFER\nFINAL source t (1, 12)\nFINAL r1 t (1, 12)\nEQUAL r1 t\nSTATUS 16\n";
+
+/// Wherever the applier's turns stand, ahead of the log, beside it or behind it, and on however many
+/// lines: it applies each entry once, in order, and the verdict stands at its CHECKSUM.
+#[test]
+fn applier_runs_ahead_and_behind(rt: HostRuntime) -> Result<(), Fail> {
+    for schedule in [
+        "SCHEDULE c c s1\n",
+        "SCHEDULE c c s1 c\n",
+        "SCHEDULE c c s1 c r1 r1 r1 r1 r1\n",
+        "SCHEDULE c r1 c r1 s1 r1 c r1\n",
+        "SCHEDULE r1 r1 r1 c r1 r1 c c s1\n",
+        "SCHEDULE r1\nSCHEDULE c c\nSCHEDULE\nSCHEDULE r1 s1\n",
+        "SCHEDULE c c s1 s1 s1 r1 c c c\n",
+    ] {
+        let (code, text) = outcome(rt.alloc(), &["run"], scheduled(rt.alloc(), schedule)?)?;
+        let log = has(text.as_slice(), "LOG 3 s1\n") || has(text.as_slice(), "LOG 4 s1\n");
+        assert!(rt; log, "{schedule}");
+        assert_eq!(rt; code, 16, "{schedule}");
+        assert!(rt;
+            has(
+                text.as_slice(),
+                "HISTORY r1 applied 1\nHISTORY r1 applied 2\nHISTORY r1 applied 3\nHISTORY r1 applied 4\nVERDICT r1 t 1 FROM LOW TO HIGH AT 2 COUNT 1 1 DIFFER\n"
+            ),
+            "{schedule}"
+        );
+    }
+    let (_, text) = outcome(
+        rt.alloc(),
+        &["run"],
+        scheduled(rt.alloc(), "SCHEDULE c c s1\n")?,
+    )?;
+    assert_eq!(rt; text.as_slice(), BETWEEN.as_bytes());
+    Ok(())
+}
+
+/// The UPDATE before, between and after the checksum tool's entries. The published checksum is that of
+/// the rows at CHECKSUM, not at SETMASTER.
+#[test]
+fn update_at_each_place(rt: HostRuntime) -> Result<(), Fail> {
+    for (schedule, code, lines) in [
+        (
+            "SCHEDULE s1\n",
+            0,
+            "LOG 1 s1\n  UPDATE t SET v = 12 WHERE id = 1\nLOG 2 c\n  CLEARCHECKS t\n",
+        ),
+        (
+            "SCHEDULE c s1\n",
+            0,
+            "LOG 2 s1\n  UPDATE t SET v = 12 WHERE id = 1\nLOG 3 c\n  CHECKSUM t CHUNK 1 FROM LOW TO HIGH USING MD5\n",
+        ),
+        (
+            "SCHEDULE c s1\n",
+            0,
+            "VERDICT r1 t 1 FROM LOW TO HIGH AT 3 COUNT 1 1 SAME\n",
+        ),
+        (
+            "SCHEDULE c c c s1\n",
+            16,
+            "LOG 3 c\n  SETMASTER t CHUNK 1 CNT 1 CRC 'afd8cf80b4beb688e2c77ac8b94682e4'\nLOG 4 s1\n  UPDATE t SET v = 12 WHERE id = 1\n",
+        ),
+        (
+            "SCHEDULE c c c s1\n",
+            16,
+            "VERDICT r1 t 1 FROM LOW TO HIGH AT 2 COUNT 1 1 DIFFER\nFINAL source t (1, 12)\nFINAL r1 t (1, 12)\nEQUAL r1 t\nSTATUS 16\n",
+        ),
+    ] {
+        let (got, text) = outcome(rt.alloc(), &["run"], scheduled(rt.alloc(), schedule)?)?;
+        assert_eq!(rt; got, code, "{schedule}");
+        assert!(rt; has(text.as_slice(), lines), "{schedule}");
+    }
+    Ok(())
+}
+
+/// A line of 100,000 items, most of which move nothing: the run goes on behind them.
+#[test]
+fn hundred_thousand_items(rt: HostRuntime) -> Result<(), Fail> {
+    let mut schedule = String::from_str(rt.alloc(), "SCHEDULE")?;
+    for _ in 0..50_000u32 {
+        schedule.push_str(" c r1")?;
+    }
+    schedule.push_str("\n")?;
+    let file = scheduled(rt.alloc(), schedule.as_str())?;
+    let (code, text) = outcome(rt.alloc(), &["run"], file)?;
+    assert_eq!(rt; code, 16);
+    assert!(rt;
+        has(
+            text.as_slice(),
+            "LOG 4 s1\n  UPDATE t SET v = 12 WHERE id = 1\nHISTORY r1 applied 1\n"
+        )
+    );
+    Ok(())
+}
+
+/// An item of the session is refused where no session stands.
+#[test]
+fn schedules_are_refused(rt: HostRuntime) -> Result<(), Fail> {
+    let (code, text) = outcome(
+        rt.alloc(),
+        &["run"],
+        file(rt.alloc(), "SCHEDULE c\nSCHEDULE s1\n")?,
+    )?;
+    assert_eq!(rt; code, 1);
+    assert_eq!(rt;
+        text.as_slice(),
+        b"ptc: workload refused: line 5: early\n".as_slice()
+    );
+    Ok(())
+}

@@ -1,4 +1,5 @@
 use super::*;
+use cluster_core::{Actor, Item};
 use ptc_statement::{Assignment, Cond, Expr, Op, ScriptStep, Sets, Statement};
 use row_types::{Row, Value};
 use std::test::*;
@@ -254,6 +255,114 @@ fn finds_early_statements(rt: HostRuntime) -> Result<(), Fail> {
             "ROW * t (5, 0)\nSESSION s1\nDELETE FROM t WHERE id = 1\n{line}\nEND\n"
         )?;
         assert_eq!(rt; early_line(&rt, body.as_str())?, 7, "{line}");
+    }
+    Ok(())
+}
+
+const SESSION: Item = Item::Turn(Actor::Session(1));
+
+const TOOL: Item = Item::Turn(Actor::Tool);
+
+const WORKER: Item = Item::Turn(Actor::Worker {
+    replica: 1,
+    worker: 1,
+});
+
+/// Whether the workload has this schedule.
+fn has_schedule(workload: &Workload, wanted: &[Item]) -> bool {
+    let items = workload.schedule.as_slice();
+    items.len() == wanted.len() && items.iter().zip(wanted.iter()).all(|(a, b)| a == b)
+}
+
+#[test]
+fn reads_a_schedule(rt: HostRuntime) -> Result<(), Fail> {
+    for (body, wanted) in [
+        (
+            "ROW * t (5, 0)\nSESSION s1\nDELETE FROM t WHERE id = 5\nSCHEDULE c s1 r1\nSCHEDULE\nSCHEDULE s1 s1 c\nEND\n",
+            [TOOL, SESSION, WORKER, SESSION, SESSION, TOOL].as_slice(),
+        ),
+        ("SESSION s1\nSCHEDULE s1\nEND\n", [SESSION].as_slice()),
+        (
+            "ROW * t (5, 0)\nSCHEDULE r1 c c r1\nEND\n",
+            [WORKER, TOOL, TOOL, WORKER].as_slice(),
+        ),
+        ("SCHEDULE\nEND\n", [].as_slice()),
+        ("END\n", [].as_slice()),
+    ] {
+        match read_body(&rt, body)? {
+            Err(_) => return Err(Fail::from("the schedule is read")),
+            Ok(workload) => assert!(rt; has_schedule(&workload, wanted), "{body}"),
+        }
+    }
+    Ok(())
+}
+
+#[test]
+fn reads_a_long_schedule(rt: HostRuntime) -> Result<(), Fail> {
+    let mut body = String::from_str(rt.alloc(), "SCHEDULE")?;
+    for _ in 0..50_000 {
+        body.push_str(" c r1")?;
+    }
+    for _ in 0..100_000 {
+        body.push_str("\nSCHEDULE c")?;
+    }
+    body.push_str("\nEND\n")?;
+    match read_body(&rt, body.as_str())? {
+        Err(_) => return Err(Fail::from("the schedule is read")),
+        Ok(workload) => assert_eq!(rt; workload.schedule.len(), 200_000),
+    }
+    Ok(())
+}
+
+#[test]
+fn finds_early_lines_of_a_schedule(rt: HostRuntime) -> Result<(), Fail> {
+    assert_eq!(rt; early_line(&rt, "SCHEDULE s1\nEND\n")?, 4);
+    assert_eq!(rt; early_line(&rt, "SCHEDULE c\nSCHEDULE c s1\nEND\n")?, 5);
+    assert_eq!(rt; early_line(&rt, "SCHEDULE c\n")?, 5);
+    assert_eq!(rt; early_line(&rt, "SCHEDULE c")?, 4);
+    assert_eq!(rt; early_line(&rt, "SESSION s1\nSCHEDULE c\nSCHEDULE\n")?, 7);
+    assert_eq!(rt; early_line(&rt, "SCHEDULE c\nEND\nSCHEDULE c\n")?, 6);
+    assert_eq!(rt; early_line(&rt, "SCHEDULE c\nROW * t (1, 2)\nEND\n")?, 5);
+    assert_eq!(rt; early_line(&rt, "SCHEDULE c\nSESSION s1\nEND\n")?, 5);
+    assert_eq!(rt;
+        early_line(
+            &rt,
+            "SESSION s1\nSCHEDULE c\nDELETE FROM t WHERE id = 1\nEND\n"
+        )?,
+        6
+    );
+    assert_eq!(rt;
+        early_line(&rt, "SESSION s1\nSCHEDULE c\nSESSION s1\nEND\n")?,
+        6
+    );
+    Ok(())
+}
+
+/// Each stands behind the session's line and a SCHEDULE line, as line 6.
+#[test]
+fn finds_early_items(rt: HostRuntime) -> Result<(), Fail> {
+    for line in [
+        "SCHEDULE r2",
+        "SCHEDULE s2",
+        "SCHEDULE c  c",
+        "SCHEDULE  c",
+        "SCHEDULE c ",
+        "SCHEDULE ",
+        "SCHEDULEc",
+        "SCHEDULE cc",
+        "SCHEDULE c\tc",
+        "SCHEDULE C",
+        "SCHEDULE s",
+        "SCHEDULE s1r1",
+        "SCHEDULE c\r",
+        "schedule c",
+        " SCHEDULE c",
+        "SCHEDUL",
+        "S",
+        "",
+    ] {
+        let body = format!(in rt.alloc(); "SESSION s1\nSCHEDULE s1 c\n{line}\nEND\n")?;
+        assert_eq!(rt; early_line(&rt, body.as_str())?, 6, "{line}");
     }
     Ok(())
 }

@@ -1,5 +1,5 @@
 use Rattle.std.proofs.Common.{vec_len, ◌≡◌, ◌++◌, map}
-use Rattle.cluster_core.specs.World.{unstarted}
+use Rattle.cluster_core.specs.Sessions.{unstarted}
 use Rattle.cluster_core.proofs.worlds.fresh_sessions.Given as goal
 
 abbrev pub invariant-loop-alloc : goal.invariant-loop-alloc

@@ -16,4 +16,5 @@ invariant_of-self-2 c =
       log = rw same (log_more c.self.inside.source.schemas c.self.inside.source.history c.log.new.self.history Checksum c.args.statement
           kept.log (fits_all c.self.inside.source.schemas c.args.statement c.requires) (ap (λ (n : NodeView). n.history) c.in_ok-log.ensures.ok));
       scripts = rw same kept.scripts;
+      schedule = kept.schedule;
     }

@@ -7,4 +7,4 @@ rounds-preserved c =
 
 pub returns-in_err-round-clause-err : goal.returns-in_err-round-clause-err
 returns-in_err-round-clause-err c =
-    on_err_of c.from_residual.result (reaches_more c.args.self.now c.rounds.self c.round.new.self c.rounds.invariant.turns c.in_err-round.ensures.err)
+    on_err_of c.from_residual-in_err-round.result (reaches_more c.args.self.now c.rounds.self c.round.new.self c.rounds.invariant.items c.in_err-round.ensures.err)

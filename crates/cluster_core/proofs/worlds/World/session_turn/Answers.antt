@@ -1,11 +1,12 @@
-use Rattle.std.proofs.Common.{Some, ◌-◌, ◌<◌, length, ap, sym, ◌∙◌, arith, subst}
+use Rattle.std.proofs.Common.{Some, ◌-◌, ◌<◌, length, drop, ap, sym, ◌∙◌, arith, subst}
 use Rattle.std.specs.Prelude.{slice_set}
 use Rattle.std.proofs.lemmas.List.{length-set}
-use Rattle.cluster_core.specs.World.{SessionView, WorldView, session_turn}
+use Rattle.cluster_core.specs.Sessions.{SessionView}
+use Rattle.cluster_core.specs.World.{WorldView, session_turn}
 use Rattle.cluster_core.specs.Good.{StepsFit}
 use Rattle.cluster_core.specs.Turns.{Takes}
 use Rattle.cluster_core.proofs.EachLemmas.{each_at, each_set}
-use Rattle.cluster_core.proofs.RunLemmas.{slice_get-within}
+use Rattle.cluster_core.proofs.MoveLemmas.{slice_get-within}
 use Rattle.cluster_core.proofs.KeptLemmas.{turn_keeps, session_takes}
 use Rattle.cluster_core.proofs.worlds.World.session_turn.Goals as goal
 
@@ -25,12 +26,13 @@ invariant_of-self-2 c =
       sessions = omega (arith, length-set c.self.inside.sessions.items (c.args.session - 1) c.turn.new.self, kept.sessions);
       schemas = rw both.schemas_stay kept.schemas;
       log = rw both.schemas_stay both.log;
+      schedule = kept.schedule;
       scripts = rw both.schemas_stay (each_set (StepsFit schemas) c.self.inside.sessions.items (c.args.session - 1) c.turn.new.self kept.scripts after);
     }
 
 pub returns-clause-ok : goal.returns-clause-ok
 returns-clause-ok c =
-    let old : WorldView = record { source = c.self.inside.source; replicas = c.self.inside.replicas.items; sessions = c.self.inside.sessions.items; phase = c.self.inside.phase } in
+    let old : WorldView = record { source = c.self.inside.source; replicas = c.self.inside.replicas.items; sessions = c.self.inside.sessions.items; phase = c.self.inside.phase; unplayed = drop c.self.inside.played c.self.inside.schedule } in
     let new : WorldView = record old { source = c.turn.new.source; sessions = slice_set old.sessions (c.args.session - 1) c.turn.new.self } in
     let within : c.args.session - 1 < length old.sessions = omega arith in
     subst (λ (w : WorldView). Takes (session_turn c.args.session w) c.in_ok-moved.moved w new) c.self.view_is
