@@ -1,8 +1,8 @@
 -- The place of a key among rows that rise, and the change of rows that a statement makes.
-use Rattle.std.proofs.Common.{append_assoc, length-take-le, length-drop, ◌≡◌, ◌∙◌, ℕ, zero, suc, ◌+◌, ◌-◌, ◌<◌, ◌≤◌, Bool, true, false, cond, Option, Some, None, List, [], ◌∷◌, ◌++◌, length, take, drop, refl, ap, sym, subst, arith}
+use Rattle.std.proofs.Common.{append_assoc, length-take-le, length-drop, ◌≡◌, ◌∙◌, ℕ, zero, suc, ◌+◌, ◌-◌, ◌<◌, ◌≤◌, Bool, true, false, not, cond, Option, Some, None, List, [], ◌∷◌, ◌++◌, length, take, drop, refl, ap, sym, subst, arith}
 use Rattle.std.specs.Prelude.{slice_index_or, is_some, ◌&&◌}
 use Rattle.std.specs.List.{AllByRecursion}
-use Rattle.std.specs.Ordering.{is_eq, is_le, is_lt, ordering_reverse, ordering_then, match_ordering}
+use Rattle.std.specs.Ordering.{is_eq, is_le, is_lt, ordering_then, match_ordering}
 use Rattle.std.specs.declared.cmp.Ordering.{Ordering}
 use Rattle.std.specs.declared.cmp.Ordering.TheVariants.{Less, Equal, Greater}
 use Rattle.row_types.specs.declared.values.Value.{Value}
@@ -10,12 +10,13 @@ use Rattle.row_types.specs.declared.edges.Edge.{Edge}
 use Rattle.row_types.specs.declared.edges.Edge.TheVariants.{Low, Before, After, High}
 use Rattle.row_types.specs.declared.edges.Span.{Span}
 use Rattle.row_types.specs.declared.table_schema.Schema.{Schema}
-use Rattle.row_types.specs.Order.{key_cmp, edge_le, has}
+use Rattle.row_types.specs.Order.{key_cmp, edge_le, is_past_edge, is_before_edge, has}
 use Rattle.row_types.specs.Fit.{key_of, IsBelowAll}
-use Rattle.row_types.proofs.OrderLemmas.{keys_total, key_at_most, key_below}
+use Rattle.row_types.proofs.OrderLemmas.{key_at_most, key_below}
+use Rattle.row_types.proofs.SpanLemmas.{past_or_before}
 use Rattle.ptc_statement.specs.declared.statements.Statement.{Statement}
 use Rattle.ptc_statement.specs.Effect.{effect, effect_within, changed, with_front, with_new_row, row_at, reach_of}
-use Rattle.ptc_statement.specs.Planned.{IsRising, key_at, is_past, is_past_edge, IsCut, IsStretch, is_there, left_within, replaced}
+use Rattle.ptc_statement.specs.Planned.{IsRising, key_at, is_past, IsCut, IsStretch, is_there, left_within, replaced}
 
 is_less : (o : Ordering) → is_lt o ≡ true → o ≡ Less
 is_less Less e = refl
@@ -136,29 +137,18 @@ pub cut_after : (schema : Schema) (key : List Value) (rows : List (List Value)) 
     → IsCut schema (is_past true key) rows place → IsCut schema (is_past_edge (After key)) rows place
 cut_after schema key rows place = cut_same schema (is_past true key) (is_past_edge (After key)) rows place (λ other. after_is (key_cmp key other))
 
-abbrev opposite : Bool → Bool
-opposite true = false
-opposite false = true
-
-before_turns : (o p : Ordering) → p ≡ ordering_reverse o → is_le (ordering_then p Greater) ≡ opposite (is_le o)
-before_turns Less p e = rw e refl
-before_turns Equal p e = rw e refl
-before_turns Greater p e = rw e refl
-
-after_turns : (o p : Ordering) → p ≡ ordering_reverse o → is_le p ≡ opposite (is_le (ordering_then o Greater))
-after_turns Less p e = rw e refl
-after_turns Equal p e = rw e refl
-after_turns Greater p e = rw e refl
+turned : (past before : Bool) → past ≡ not before → before ≡ not past
+turned true true e = cc
+turned true false e = refl
+turned false true e = refl
+turned false false e = cc
 
 -- a key is before an edge, or past it
-edge_turns : (edge : Edge) (key : List Value) → edge_le (After key) edge ≡ opposite (is_past_edge edge key)
-edge_turns Low key = refl
-edge_turns (Before k) key = before_turns (key_cmp k key) (key_cmp key k) (keys_total.antisymm key k)
-edge_turns (After k) key = after_turns (key_cmp k key) (key_cmp key k) (keys_total.antisymm key k)
-edge_turns High key = refl
+edge_turns : (edge : Edge) (key : List Value) → edge_le (After key) edge ≡ not (is_past_edge edge key)
+edge_turns edge key = turned (is_past_edge edge key) (is_before_edge edge key) (past_or_before edge key)
 
-has_of : (span : Span) (key : List Value) (lo hi : Bool) → is_past_edge span.lo key ≡ lo → is_past_edge span.hi key ≡ hi → has span key ≡ lo && opposite hi
-has_of span key lo hi e f = ap (λ b. b && edge_le (After key) span.hi) e ∙ ap (λ b. lo && b) (edge_turns span.hi key ∙ ap opposite f)
+has_of : (span : Span) (key : List Value) (lo hi : Bool) → is_past_edge span.lo key ≡ lo → is_past_edge span.hi key ≡ hi → has span key ≡ lo && not hi
+has_of span key lo hi e f = ap (λ b. b && edge_le (After key) span.hi) e ∙ ap (λ b. lo && b) (edge_turns span.hi key ∙ ap not f)
 
 and_false : (b : Bool) → b && false ≡ false
 and_false true = refl

@@ -1,7 +1,6 @@
 -- A statement that fits leaves a table of a table.
-use Rattle.std.proofs.Common.{◌≡◌, ◌∙◌, ℕ, zero, suc, ◌≤◌, Bool, true, false, cond, Option, Some, None, List, [], ◌∷◌, length, take, refl, ap, sym, subst, arith, slice_get, ℤ, pos, negsuc}
-use Rattle.std.specs.Prelude.{slice_index_or, slice_set, FitsSigned}
-use Rattle.std.specs.Int.{w32, w64, saturate_signed}
+use Rattle.std.proofs.Common.{◌≡◌, ◌∙◌, ℕ, zero, suc, ◌≤◌, Bool, true, false, cond, Option, Some, None, List, [], ◌∷◌, length, take, refl, ap, sym, subst, arith, slice_get, ℤ, pos}
+use Rattle.std.specs.Prelude.{slice_index_or, slice_set}
 use Rattle.std.specs.List.{AllByRecursion}
 use Rattle.std.specs.Option.{option_map_or}
 use Rattle.std.specs.Ordering.{match_ordering}
@@ -15,28 +14,22 @@ use Rattle.row_types.specs.declared.table_schema.Column.{Column}
 use Rattle.row_types.specs.declared.table_schema.Schema.{Schema}
 use Rattle.row_types.specs.Order.{key_cmp, has}
 use Rattle.row_types.specs.Fit.{key_of, NumberFits, TextFits, ValueFits, ValuesFit, RowFits, IsBelowAll, IsTable, IsSchema}
+use Rattle.row_types.specs.Faults.{clipped}
 use Rattle.row_types.proofs.OrderLemmas.{key_below, key_turns_back}
+use Rattle.row_types.proofs.FaultLemmas.{clipped_is_nearest}
 use Rattle.ptc_statement.specs.declared.expressions.Expr.{Expr}
 use Rattle.ptc_statement.specs.declared.expressions.Expr.TheVariants.{Lit, Cell}
 use Rattle.ptc_statement.specs.declared.expressions.Assignment.{Assignment}
 use Rattle.ptc_statement.specs.declared.statements.Statement.{Statement}
 use Rattle.ptc_statement.specs.declared.statements.Statement.TheVariants.{Insert, Delete, Update, Check, SetMaster, ClearChecks}
-use Rattle.ptc_statement.specs.Effect.{value_of, empty_of, clipped, cut, stored, assigned, after_sets, is_taken, reach_of, effect, effect_within, changed, with_front, with_new_row, rows_after}
+use Rattle.ptc_statement.specs.Effect.{value_of, empty_of, cut, stored, assigned, after_sets, is_taken, reach_of, effect, effect_within, changed, with_front, with_new_row, rows_after}
 use Rattle.ptc_statement.specs.Fits.{IsOfKind, AreOfOneKind, ExprFits, AssignmentFits, StatementFits}
 use Rattle.ptc_statement.specs.Planned.{IsRising}
 
 -- a number that is clipped fits
-saturated_32 : (n : ℤ) → FitsSigned w32 (saturate_signed w32 n)
-saturated_32 (pos n) = omega arith
-saturated_32 (negsuc n) = omega arith
-
-saturated_64 : (n : ℤ) → FitsSigned w64 (saturate_signed w64 n)
-saturated_64 (pos n) = omega arith
-saturated_64 (negsuc n) = omega arith
-
 clipped_fits : (kind : ColumnKind) (n : ℤ) → IsOfKind kind (Int n) → NumberFits kind (clipped kind n)
-clipped_fits IntColumn n of = saturated_32 n
-clipped_fits BigInt n of = saturated_64 n
+clipped_fits IntColumn n of = (clipped_is_nearest IntColumn n tt).fits
+clipped_fits BigInt n of = (clipped_is_nearest BigInt n tt).fits
 clipped_fits (TextColumn max) n of = absurd of
 
 take_bound : (count : ℕ) (text : List ℕ) → length (take count text) ≤ count

@@ -1,18 +1,18 @@
 -- The effect of a statement at a key, from the row there alone, and on the rows of its table.
-use Rattle.std.specs.Prelude.{ℕ, ℤ, pos, ◌==◌, ◌&&◌, Bool, true, false, cond, List, [], ◌∷◌, Option, None, Some, take, slice_index_or, slice_set}
+use Rattle.std.specs.Prelude.{ℕ, pos, ◌==◌, ◌&&◌, Bool, true, false, cond, List, [], ◌∷◌, Option, None, Some, take, slice_index_or, slice_set}
 use Rattle.std.specs.List.{slice_get}
-use Rattle.std.specs.Int.{w32, w64, saturate_signed}
 use Rattle.std.specs.Option.{option_map_or}
 use Rattle.std.specs.Ordering.{is_eq, match_ordering}
 use Rattle.row_types.specs.declared.values.Value.{Value}
 use Rattle.row_types.specs.declared.values.Value.TheVariants.{Null, Int, Text}
-use Rattle.row_types.specs.declared.edges.Edge.TheVariants.{Low, Before, After, High}
+use Rattle.row_types.specs.declared.edges.Edge.TheVariants.{Before, After}
 use Rattle.row_types.specs.declared.edges.Span.{Span}
 use Rattle.row_types.specs.declared.table_schema.ColumnKind.{ColumnKind}
 use Rattle.row_types.specs.declared.table_schema.ColumnKind.TheVariants.{Int as IntColumn, BigInt, Text as TextColumn}
 use Rattle.row_types.specs.declared.table_schema.Column.{Column}
 use Rattle.row_types.specs.declared.table_schema.Schema.{Schema}
-use Rattle.row_types.specs.Order.{value_cmp, key_cmp, has}
+use Rattle.row_types.specs.Order.{value_cmp, key_cmp, has, all_keys, no_keys}
+use Rattle.row_types.specs.Faults.{clipped}
 use Rattle.row_types.specs.Fit.{key_of}
 use Rattle.ptc_statement.specs.declared.expressions.Op.{Op}
 use Rattle.ptc_statement.specs.declared.expressions.Op.TheVariants.{Eq}
@@ -67,12 +67,6 @@ empty_of IntColumn = Int (pos 0)
 empty_of BigInt = Int (pos 0)
 empty_of (TextColumn max) = Text []
 
--- a number is clipped to its column
-abbrev pub clipped : ColumnKind → ℤ → ℤ
-clipped IntColumn n = saturate_signed w32 n
-clipped BigInt n = saturate_signed w64 n
-clipped (TextColumn max) n = n
-
 -- a text is cut to its column's length
 abbrev pub cut : ColumnKind → List ℕ → List ℕ
 cut IntColumn text = text
@@ -94,12 +88,6 @@ assigned schema assignment row =
 abbrev pub after_sets : Schema → List Assignment → List Value → List Value
 after_sets schema [] row = row
 after_sets schema (assignment ∷ assignments) row = after_sets schema assignments (assigned schema assignment row)
-
-abbrev pub all_keys : Span
-all_keys = record { lo = Low; hi = High }
-
-abbrev pub no_keys : Span
-no_keys = record { lo = Low; hi = Low }
 
 abbrev pub just_key : List Value → Span
 just_key key = record { lo = Before key; hi = After key }

@@ -4,11 +4,9 @@ use Rattle.std.specs.List.{slice_get}
 use Rattle.std.specs.Option.{option_map_or}
 use Rattle.std.specs.Ordering.{is_eq, is_le, is_lt}
 use Rattle.row_types.specs.declared.values.Value.{Value}
-use Rattle.row_types.specs.declared.edges.Edge.{Edge}
-use Rattle.row_types.specs.declared.edges.Edge.TheVariants.{Before}
 use Rattle.row_types.specs.declared.edges.Span.{Span}
 use Rattle.row_types.specs.declared.table_schema.Schema.{Schema}
-use Rattle.row_types.specs.Order.{key_cmp, edge_le, has}
+use Rattle.row_types.specs.Order.{key_cmp, has}
 use Rattle.row_types.specs.Fit.{key_of, IsBelowAll}
 use Rattle.ptc_statement.specs.declared.statements.Statement.{Statement}
 use Rattle.ptc_statement.specs.Effect.{effect_within, with_front}
@@ -25,10 +23,6 @@ key_at schema rows place = key_of schema (slice_index_or rows place [])
 -- whether a key is past this one, or at it where that counts too
 abbrev pub is_past : Bool → List Value → List Value → Bool
 is_past strictly key other = cond strictly (is_lt (key_cmp key other)) (is_le (key_cmp key other))
-
--- whether a key is past the edge
-abbrev pub is_past_edge : Edge → List Value → Bool
-is_past_edge edge key = edge_le edge (Before key)
 
 -- the rows from this one on are those whose key passes the test
 pub record IsCut (schema : Schema) (test : List Value → Bool) (rows : List (List Value)) (place : ℕ) : Type 0 where

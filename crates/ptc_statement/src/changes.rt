@@ -1,9 +1,10 @@
 ghost use Rattle.std.specs.Prelude.{◌≡◌, ◌≤◌, ◌<◌, ◌+◌, ◌-◌, List, [], ◌∷◌, ◌++◌, Some, length, take, drop, is_some, IfOk, OnOk, OnErr, vec_len, vec_capacity};
+ghost use Rattle.row_types.specs.Order.{is_past_edge};
 ghost use Rattle.row_types.specs.Fit.{key_of};
 ghost use Rattle.ptc_statement.specs.Effect.{rows_after, row_at, with_new_row, with_front, changed, effect_within, reach_of};
-ghost use Rattle.ptc_statement.specs.Planned.{IsRising, IsCut, IsStretch, is_past, is_past_edge, is_there, left_within, replaced};
+ghost use Rattle.ptc_statement.specs.Planned.{IsRising, IsCut, IsStretch, is_past, is_there, left_within, replaced};
 
-use crate::effects::{key_values, reach, row_left};
+use crate::effects::{reach, row_left};
 use crate::statements::Statement;
 use row_types::keys::compare_values;
 use row_types::{Edge, R, Row, Rows, Schema, Span, Value};
@@ -45,7 +46,7 @@ fn insertion(alloc: Global, schema: &Schema, row: &Row, rows: &[Row]) -> R<Chang
     ensures within { IfOk result (λ change. change.to ≤ length rows.now) }
     ensures rows { IfOk result (λ change. with_new_row schema.now row.now rows.now ≡ replaced change.from change.to change.rows rows.now) }
 {
-    let key = key_values(schema, row);
+    let key = schema.key_values(row);
     let place = first_past(schema, rows, key, false);
     let mut new = Rows::new(alloc);
     if is_at(schema, rows, place, key) {
@@ -131,7 +132,7 @@ pub fn has_key_of(schema: &Schema, rows: &[Row], row: &Row) -> bool
     requires { IsRising schema.now rows.now }
     ensures { result ≡ is_some (row_at schema.now (key_of schema.now row.now) rows.now) }
 {
-    let key = key_values(schema, row);
+    let key = schema.key_values(row);
     let place = first_past(schema, rows, key, false);
     is_at(schema, rows, place, key)
 }
@@ -142,7 +143,7 @@ fn is_at(schema: &Schema, rows: &[Row], place: usize, key: &[Value]) -> bool
 {
     match rows.get(place) {
         None => false,
-        Some(row) => compare_values(key, key_values(schema, row)).is_eq(),
+        Some(row) => compare_values(key, schema.key_values(row)).is_eq(),
     }
 }
 
@@ -181,7 +182,7 @@ fn first_past(schema: &Schema, rows: &[Row], key: &[Value], strictly: bool) -> u
 fn is_behind(schema: &Schema, row: &Row, key: &[Value], strictly: bool) -> bool
     ensures { result ≡ is_past strictly key.now (key_of schema.now row.now) }
 {
-    let ordering = compare_values(key, key_values(schema, row));
+    let ordering = compare_values(key, schema.key_values(row));
     if strictly {
         return ordering.is_lt();
     }

@@ -3,12 +3,13 @@ ghost use Rattle.std.specs.Option.{option_copied};
 ghost use Rattle.row_types.specs.declared.values.Value.{Value as ColumnValue};
 ghost use Rattle.row_types.specs.declared.values.Value.TheVariants.{Null as NullValue};
 ghost use Rattle.row_types.specs.Fit.{key_of};
+ghost use Rattle.row_types.specs.Faults.{clipped};
 ghost use Rattle.ptc_statement.specs.declared.expressions.Op.TheVariants.{Eq as Equals};
-ghost use Rattle.ptc_statement.specs.Effect.{value_of, truth_of, compared, is_true, is_taken, empty_of, clipped, cut, stored, assigned, after_sets, reach_of, keys_where, keys_equal, effect, effect_within};
+ghost use Rattle.ptc_statement.specs.Effect.{value_of, truth_of, compared, is_true, is_taken, empty_of, cut, stored, assigned, after_sets, reach_of, keys_where, keys_equal, effect, effect_within};
 
 use crate::expressions::{Assignment, Cond, Expr, Op, Sets};
 use crate::statements::Statement;
-use row_types::{Bytes, Column, ColumnKind, Edge, Key, R, Row, Schema, Span, Value};
+use row_types::{Bytes, Column, ColumnKind, Edge, Key, R, Row, Schema, Span, Value, clip};
 use std::alloc::Global;
 
 /// The keys that a statement walks.
@@ -16,7 +17,7 @@ pub fn reach(alloc: Global, statement: &Statement, schema: &Schema) -> R<Span>
     ensures { IfOk result (λ span. span ≡ reach_of schema.now statement.now) }
 {
     match statement {
-        Statement::Insert { row, .. } => Ok(just_key(alloc, key_values(schema, row))?),
+        Statement::Insert { row, .. } => Ok(just_key(alloc, schema.key_values(row))?),
         Statement::Delete { cond, .. } | Statement::Update { cond, .. } => {
             keys_taken(alloc, schema, cond)
         }
@@ -86,34 +87,13 @@ pub fn row_left(alloc: Global, statement: &Statement, schema: &Schema, row: &Row
     }
 }
 
-/// The values of a row's key columns, as far as it has them.
-pub(crate) fn key_values<'a>(schema: &Schema, row: &'a Row) -> &'a [Value]
-    ensures { result.now ≡ key_of schema.now row.now }
-{
-    let values = row.as_slice();
-    if values.len() <= schema.key_len as usize {
-        return values;
-    }
-    values.split_at(schema.key_len as usize).0
-}
-
-fn key_from(alloc: Global, values: &[Value]) -> R<Key>
-    ensures { IfOk result (λ key. key ≡ values.now) }
-{
-    let mut items = Vec::new(alloc);
-    for value in values {
-        items.push(value.copy(alloc)?)?;
-    }
-    Ok(Key { items })
-}
-
 /// The span of one key.
 fn just_key(alloc: Global, values: &[Value]) -> R<Span>
     ensures { IfOk result (λ span. span ≡ record { lo = Edge.Before values.now; hi = Edge.After values.now }) }
 {
     Ok(Span {
-        lo: Edge::Before(key_from(alloc, values)?),
-        hi: Edge::After(key_from(alloc, values)?),
+        lo: Edge::Before(Key::from_values(alloc, values)?),
+        hi: Edge::After(Key::from_values(alloc, values)?),
     })
 }
 
@@ -275,26 +255,18 @@ fn kept(alloc: Global, column: &Column, value: &Value) -> R<Value>
 {
     match value {
         Value::Null => Ok(kept_null(alloc, column)),
-        Value::Int(number) => Ok(Value::Int(clip(column.kind, *number))),
+        Value::Int(number) => Ok(Value::Int(clip_number(column.kind, *number))),
         Value::Text(text) => Ok(Value::Text(cut_text(alloc, column.kind, text)?)),
     }
 }
 
 /// A number, clipped to its column.
-fn clip(kind: ColumnKind, number: i64) -> i64
+fn clip_number(kind: ColumnKind, number: i64) -> i64
     ensures { result ≡ clipped kind number }
 {
     match kind {
-        ColumnKind::Int => {
-            if number < -2147483648 {
-                return -2147483648;
-            }
-            if number > 2147483647 {
-                return 2147483647;
-            }
-            number
-        }
-        ColumnKind::BigInt | ColumnKind::Text { .. } => number,
+        ColumnKind::Int | ColumnKind::BigInt => clip(&kind, number as i128),
+        ColumnKind::Text { .. } => number,
     }
 }
 

@@ -1,6 +1,6 @@
 -- The orders of values and keys are total, and only equal ones tie.
-use Rattle.std.proofs.Common.{◌≡◌, ◌∙◌, ℕ, ℤ, pos, List, [], ◌∷◌, true, false, sym, ap, subst, refl, IsTrue}
-use Rattle.std.specs.Ordering.{nat_cmp, int_cmp, is_eq, is_le, is_lt, ordering_reverse, ordering_then, on, then_cmp}
+use Rattle.std.proofs.Common.{◌≡◌, ◌∙◌, ℕ, ℤ, pos, List, [], true, sym, ap, subst, refl}
+use Rattle.std.specs.Ordering.{nat_cmp, int_cmp, is_le, ordering_reverse, ordering_then, on, then_cmp}
 use Rattle.std.specs.Cmp.{IsTotalOrder, nat_cmp_total, on_total, then_total}
 use Rattle.std.specs.Cmp.Lexicographic.{slice_cmp, lists_total}
 use Rattle.std.specs.FinMap.{IsAntisymmetric, nat_cmp-IsAntisymmetric, int_cmp-IsAntisymmetric, slice_cmp-IsAntisymmetric}
@@ -32,7 +32,7 @@ ranked = then_cmp (on rank nat_cmp) (then_cmp (on number int_cmp) (on text (slic
 ranked_total : IsTotalOrder ranked
 ranked_total = then_total (on_total rank nat_cmp_total) (then_total (on_total number int_cmp_total) (on_total text nat_list_cmp_total))
 
-equal_last : (o : Ordering) → o ≡ ordering_then o Equal
+pub equal_last : (o : Ordering) → o ≡ ordering_then o Equal
 equal_last Less = refl
 equal_last Equal = refl
 equal_last Greater = refl
@@ -77,6 +77,9 @@ own_reverse Greater e = cc
 -- a key ties with itself
 pub key_ties : (a : List Value) → key_cmp a a ≡ Equal
 key_ties a = own_reverse (key_cmp a a) (keys_total.antisymm a a)
+
+pub key_tied : (a b : List Value) → a ≡ b → key_cmp a b ≡ Equal
+key_tied a b same = ap (key_cmp a) (sym same) ∙ key_ties a
 
 -- the order the other way round
 pub key_turns : (a b : List Value) → key_cmp a b ≡ Less → key_cmp b a ≡ Greater

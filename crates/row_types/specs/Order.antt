@@ -1,6 +1,7 @@
 -- The orders of values, keys and edges, and the keys of a span.
-use Rattle.std.specs.Prelude.{List, Bool, ◌&&◌}
-use Rattle.std.specs.Ordering.{nat_cmp, int_cmp, is_le, ordering_then}
+use Rattle.std.specs.Prelude.{◌≡◌, List, [], ◌∷◌, Bool, cond, ◌&&◌}
+use Rattle.std.specs.List.{AllByRecursion}
+use Rattle.std.specs.Ordering.{nat_cmp, int_cmp, is_le, is_lt, ordering_then}
 use Rattle.std.specs.Cmp.Lexicographic.{slice_cmp}
 use Rattle.std.specs.declared.cmp.Ordering.{Ordering}
 use Rattle.std.specs.declared.cmp.Ordering.TheVariants.{Less, Equal, Greater}
@@ -48,6 +49,42 @@ edge_cmp High High = Equal
 abbrev pub edge_le : Edge → Edge → Bool
 edge_le e f = is_le (edge_cmp e f)
 
+-- whether a key is past an edge
+abbrev pub is_past_edge : Edge → List Value → Bool
+is_past_edge edge key = edge_le edge (Before key)
+
+-- whether a key is before an edge
+abbrev pub is_before_edge : Edge → List Value → Bool
+is_before_edge edge key = edge_le (After key) edge
+
 -- whether a key lies between the edges of a span
 abbrev pub has : Span → List Value → Bool
-has span key = edge_le span.lo (Before key) && edge_le (After key) span.hi
+has span key = is_past_edge span.lo key && is_before_edge span.hi key
+
+abbrev pub all_keys : Span
+all_keys = record { lo = Low; hi = High }
+
+abbrev pub no_keys : Span
+no_keys = record { lo = Low; hi = Low }
+
+abbrev pub later_edge : Edge → Edge → Edge
+later_edge e f = cond (edge_le e f) f e
+
+abbrev pub earlier_edge : Edge → Edge → Edge
+earlier_edge e f = cond (edge_le e f) e f
+
+-- the keys from one edge to another; from Low to Low where that leaves none
+abbrev pub between : Edge → Edge → Span
+between lo hi = cond (is_lt (edge_cmp lo hi)) (record { lo = lo; hi = hi }) no_keys
+
+-- the keys of both spans: from the greater low edge to the lesser high edge
+abbrev pub meeting : Span → Span → Span
+meeting ours theirs = between (later_edge ours.lo theirs.lo) (earlier_edge ours.hi theirs.hi)
+
+abbrev pub IsBelowKeys : List Value → List (List Value) → Type 0
+IsBelowKeys key = AllByRecursion (λ (other : List Value). key_cmp key other ≡ Less)
+
+-- each key is below all that follow it
+abbrev pub KeysRise : List (List Value) → Type 0
+KeysRise [] = Unit {0}
+KeysRise (key ∷ keys) = IsBelowKeys key keys × KeysRise keys

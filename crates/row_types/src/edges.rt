@@ -1,5 +1,5 @@
 ghost use Rattle.std.specs.Prelude.{◌≡◌, ◌≤◌, ◌↔◌, IsTrue, IfOk, length, take};
-ghost use Rattle.row_types.specs.Order.{edge_cmp, edge_le, has};
+ghost use Rattle.row_types.specs.Order.{edge_cmp, edge_le, is_past_edge, is_before_edge, has, all_keys, later_edge, earlier_edge, meeting};
 
 use crate::keys::{Key, compare_values};
 use crate::memory::R;
@@ -68,7 +68,7 @@ impl Edge {
 
     /// Whether the key of these values is past this edge.
     fn is_before(&self, key: &[Value]) -> bool
-        ensures { result ≡ edge_le self.now (Edge.Before key.now) }
+        ensures { result ≡ is_past_edge self.now key.now }
     {
         match self {
             Edge::Low => true,
@@ -80,7 +80,7 @@ impl Edge {
 
     /// Whether the key of these values is before this edge.
     fn is_after(&self, key: &[Value]) -> bool
-        ensures { result ≡ edge_le (Edge.After key.now) self.now }
+        ensures { result ≡ is_before_edge self.now key.now }
     {
         match self {
             Edge::Low => false,
@@ -94,7 +94,7 @@ impl Edge {
 impl Span {
     /// All keys.
     pub fn whole() -> Span
-        ensures { result ≡ record { lo = Edge.Low; hi = Edge.High } }
+        ensures { result ≡ all_keys }
     {
         Span {
             lo: Edge::Low,
@@ -124,6 +124,25 @@ impl Span {
         self.has_values(key.as_slice())
     }
 
+    /// The keys of both spans: from the greater low edge to the lesser high edge, or from Low to Low
+    /// where that leaves none.
+    pub fn meet(&self, alloc: Global, other: &Span) -> R<Span>
+        ensures { IfOk result (λ span. span ≡ meeting self.now other.now) }
+    {
+        let lo = later(&self.lo, &other.lo);
+        let hi = earlier(&self.hi, &other.hi);
+        if lo.compare(hi).is_lt() {
+            return Ok(Span {
+                lo: lo.copy(alloc)?,
+                hi: hi.copy(alloc)?,
+            });
+        }
+        Ok(Span {
+            lo: Edge::Low,
+            hi: Edge::Low,
+        })
+    }
+
     /// Whether the row's key, its first `key_len` values, lies between the edges.
     pub fn has_row(&self, row: &Row, key_len: u8) -> bool
         requires { key_len ≤ length row.now }
@@ -136,5 +155,25 @@ impl Span {
         ensures { result ≡ has self.now key.now }
     {
         self.lo.is_before(key) && self.hi.is_after(key)
+    }
+}
+
+fn later<'a>(ours: &'a Edge, theirs: &'a Edge) -> &'a Edge
+    ensures { result.now ≡ later_edge ours.now theirs.now }
+{
+    if ours.compare(theirs).is_le() {
+        theirs
+    } else {
+        ours
+    }
+}
+
+fn earlier<'a>(ours: &'a Edge, theirs: &'a Edge) -> &'a Edge
+    ensures { result.now ≡ earlier_edge ours.now theirs.now }
+{
+    if ours.compare(theirs).is_le() {
+        ours
+    } else {
+        theirs
     }
 }

@@ -87,6 +87,17 @@ impl Key {
 }
 
 impl Key {
+    /// The key of these values.
+    pub fn from_values(alloc: Global, values: &[Value]) -> R<Key>
+        ensures { IfOk result (λ key. key ≡ values.now) }
+    {
+        let mut items = Vec::new(alloc);
+        for value in values {
+            items.push(value.copy(alloc)?)?;
+        }
+        Ok(Key { items })
+    }
+
     /// Compares column by column; a proper prefix is less.
     pub fn compare(&self, other: &Key) -> Ordering
         ensures { result ≡ key_cmp self.now other.now }

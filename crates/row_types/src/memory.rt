@@ -1,7 +1,7 @@
-ghost use Rattle.std.specs.Prelude.{◌≡◌};
+ghost use Rattle.std.specs.Prelude.{◌≡◌, ◌↔◌, IsTrue, IfOk};
 ghost use Rattle.row_types.specs.declared.memory.Memory.{Memory};
 
-use std::alloc::{AllocError, AllocFailed};
+use std::alloc::{AllocError, AllocFailed, Global};
 
 /// Want of memory.
 #[derive(Clone, Copy, Debug, PartialEq, Eq)]
@@ -9,6 +9,20 @@ pub struct Memory;
 
 /// What a call gives that only want of memory can refuse.
 pub type R<T> = Result<T, Memory>;
+
+impl Memory {
+    pub fn copy(&self, _alloc: Global) -> R<Memory>
+        ensures { IfOk result (λ copy. copy ≡ self.now) }
+    {
+        Ok(Memory)
+    }
+
+    pub fn same(&self, _other: &Memory) -> bool
+        ensures { IsTrue result ↔ (self.now ≡ _other.now) }
+    {
+        true
+    }
+}
 
 impl From<AllocError> for Memory {
     fn from(_error: AllocError) -> Memory {
