@@ -1,0 +1,18 @@
+//! The encoding of a row, and checksums of rows: a count, and the XOR of the digests of their
+//! encodings (pt-table-checksum's manual, "How it works": BIT_XOR of a digest a row, beside COUNT).
+#![tactic(auto)]
+
+pub mod checksums;
+pub mod crc_digits;
+pub mod digest_laws;
+pub mod encoding;
+pub mod encoding_laws;
+
+pub use checksums::{add, digest_rows};
+pub use crc_digits::crc_text;
+pub use digest_laws::rows_are_added_one_by_one;
+pub use encoding::encode;
+pub use encoding_laws::{encodings_tell_rows_apart, no_spelling_begins_another};
+
+#[cfg(test)]
+mod tests;
