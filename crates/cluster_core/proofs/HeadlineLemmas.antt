@@ -16,10 +16,10 @@ use Rattle.ptc_statement.specs.declared.scripts.ScriptStep.{ScriptStep}
 use Rattle.ptc_statement.specs.declared.scripts.ScriptStep.TheVariants.{Run}
 use Rattle.ptc_statement.specs.Fits.{IsClients}
 use Rattle.history.specs.declared.entries.Entry.{Entry}
-use Rattle.history.specs.declared.checks.CheckRow.{CheckRow}
-use Rattle.history.specs.declared.checks.CheckEntry.{CheckEntry}
-use Rattle.history.specs.declared.checks.Verdict.TheVariants.{Pending}
-use Rattle.history.specs.Checks.{check_at}
+use Rattle.checksum_table.specs.declared.check_rows.CheckRow.{CheckRow}
+use Rattle.checksum_table.specs.declared.check_rows.CheckEntry.{CheckEntry}
+use Rattle.checksum_table.specs.declared.check_rows.Verdict.TheVariants.{Pending}
+use Rattle.checksum_table.specs.Checks.{check_at}
 use Rattle.history.specs.Replay.{Replayed, checks_after, fold, applied_of, applying, chunk_rows, source_at, replica_at, Follows}
 use Rattle.history.specs.Headline.{IsTrueMaster, MastersAreTrue, Compares, IsVerdict}
 use Rattle.history.proofs.ReplayLemmas.{fold_more, masters_more, follows_more, follows_longer_log, follows_length, applied_of-follows}

@@ -13,12 +13,12 @@ use Rattle.row_types.specs.declared.table_schema.Schema.{Schema}
 use Rattle.ptc_statement.specs.declared.statements.Statement.{Statement}
 use Rattle.ptc_statement.specs.declared.statements.Statement.TheVariants.{Insert, Delete, Update, Check as CheckStatement, SetMaster, ClearChecks}
 use Rattle.history.specs.declared.entries.Entry.{Entry}
-use Rattle.history.specs.declared.checks.CheckRow.{CheckRow}
-use Rattle.history.specs.declared.checks.CheckEntry.{CheckEntry}
-use Rattle.history.specs.declared.checks.Verdict.TheVariants.{Same, Differ, Pending}
-use Rattle.history.specs.Checks.{is_for, place_cmp, check_at, with_check, with_absent, with_master, without_table, mastered, digest_eq, verdict_against, verdict_of_row}
+use Rattle.checksum_table.specs.declared.check_rows.CheckRow.{CheckRow}
+use Rattle.checksum_table.specs.declared.check_rows.CheckEntry.{CheckEntry}
+use Rattle.checksum_table.specs.declared.check_rows.Verdict.TheVariants.{Same, Differ, Pending}
+use Rattle.checksum_table.specs.Checks.{is_for, place_cmp, check_at, with_check, with_absent, with_master, without_table, mastered, digest_eq, verdict_against, verdict_of_row}
 use Rattle.history.specs.Replay.{Replayed, checks_after, after_statement, after_statements, fold, position_of, applying, Follows}
-use Rattle.history.proofs.CheckLemmas.{check_at-with_check, check_at-with_master, check_at-without_table, check_at-with_check_same, check_at-with_check_other}
+use Rattle.checksum_table.proofs.CheckLemmas.{check_at-with_check, check_at-with_master, check_at-without_table, check_at-with_check_same, check_at-with_check_other}
 use Rattle.history.proofs.ReplayLemmas.{fold-take_more, follows_at}
 use Rattle.cluster_core.specs.Report.{all_chunks}
 use Rattle.cluster_core.proofs.EachLemmas.{each_more}

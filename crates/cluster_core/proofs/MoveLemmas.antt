@@ -14,8 +14,8 @@ use Rattle.ptc_statement.specs.declared.scripts.ScriptLine.{ScriptLine}
 use Rattle.ptc_statement.specs.declared.scripts.ScriptStep.{ScriptStep}
 use Rattle.ptc_statement.specs.declared.scripts.ScriptStep.TheVariants.{Run}
 use Rattle.history.specs.declared.entries.Entry.{Entry}
-use Rattle.history.specs.declared.checks.CheckRow.{CheckRow}
-use Rattle.history.specs.Checks.{check_at}
+use Rattle.checksum_table.specs.declared.check_rows.CheckRow.{CheckRow}
+use Rattle.checksum_table.specs.Checks.{check_at}
 use Rattle.history.specs.Replay.{applied_of, applying}
 use Rattle.history.proofs.ReplayLemmas.{applied_of-more}
 use Rattle.cluster_core.specs.Node.{NodeView, logged, replayed_of}

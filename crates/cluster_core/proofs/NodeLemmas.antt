@@ -16,8 +16,9 @@ use Rattle.ptc_statement.specs.Fits.{FitsSchemas}
 use Rattle.ptc_statement.specs.Planned.{IsRising, replaced}
 use Rattle.ptc_statement.proofs.TableLemmas.{rows_after_table, table_rises}
 use Rattle.history.specs.declared.entries.Entry.{Entry}
-use Rattle.history.specs.declared.checks.CheckEntry.{CheckEntry}
-use Rattle.history.specs.Digest.{IsCheckable, ValueIsShort}
+use Rattle.checksum_table.specs.declared.check_rows.CheckEntry.{CheckEntry}
+use Rattle.row_types.specs.Faults.{TextIsShort}
+use Rattle.row_digest.specs.Digest.{IsCheckable}
 use Rattle.history.specs.Replay.{checks_after, tables_after, table_rows, after_statement, after_entry, fold, position_of}
 use Rattle.history.proofs.ReplayLemmas.{fold_more}
 use Rattle.history.specs.declared.entries.Origin.{Origin}
@@ -39,13 +40,13 @@ text_is_short IntColumn text fits short = absurd short
 text_is_short BigInt text fits short = absurd short
 text_is_short (TextColumn max) text fits short = omega arith
 
-value_is_short : (column : Column) (value : Value) → LengthFits column → ValueFits column value → ValueIsShort value
+value_is_short : (column : Column) (value : Value) → LengthFits column → ValueFits column value → TextIsShort value
 value_is_short column Null fits value = tt
 value_is_short column (Int n) fits value = tt
 value_is_short column (OneText text) fits value = text_is_short column.kind text fits value
 
 values_are_short : (columns : List Column) (values : List Value) → AllByRecursion LengthFits columns → ValuesFit columns values
-    → AllByRecursion ValueIsShort values
+    → AllByRecursion TextIsShort values
 values_are_short [] [] lengths fit = tt
 values_are_short [] (value ∷ values) lengths fit = absurd fit
 values_are_short (column ∷ columns) [] lengths fit = tt

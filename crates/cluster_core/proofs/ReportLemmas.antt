@@ -1,6 +1,6 @@
 -- The verdicts on one replica more.
 use Rattle.std.proofs.Common.{◌≡◌, ℕ, ◌+◌, List, ◌∷◌, ◌++◌, refl}
-use Rattle.history.specs.declared.checks.CheckEntry.{CheckEntry}
+use Rattle.checksum_table.specs.declared.check_rows.CheckEntry.{CheckEntry}
 use Rattle.cluster_core.specs.Node.{NodeView, replayed_of}
 use Rattle.cluster_core.specs.Report.{replica_verdicts, verdicts_from}
 

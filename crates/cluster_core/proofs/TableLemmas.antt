@@ -8,10 +8,10 @@ use Rattle.std.specs.Ordering.{match_ordering}
 use Rattle.std.specs.declared.cmp.Ordering.{Ordering}
 use Rattle.std.specs.declared.cmp.Ordering.TheVariants.{Less, Equal, Greater}
 use Rattle.row_types.specs.declared.digests.Digest.{Digest}
-use Rattle.history.specs.declared.checks.CheckRow.{CheckRow}
-use Rattle.history.specs.declared.checks.CheckEntry.{CheckEntry}
-use Rattle.history.specs.Checks.{is_for, place_cmp, check_at, with_check, with_absent, with_master, without_table, mastered}
-use Rattle.history.proofs.CheckLemmas.{check_at-with_check, check_at-with_master, check_at-without_table, check_at-without_table_other}
+use Rattle.checksum_table.specs.declared.check_rows.CheckRow.{CheckRow}
+use Rattle.checksum_table.specs.declared.check_rows.CheckEntry.{CheckEntry}
+use Rattle.checksum_table.specs.Checks.{is_for, place_cmp, check_at, with_check, with_absent, with_master, without_table, mastered}
+use Rattle.checksum_table.proofs.CheckLemmas.{check_at-with_check, check_at-with_master, check_at-without_table, check_at-without_table_other}
 use Rattle.cluster_core.specs.Node.{NodeView, replayed_of}
 use Rattle.cluster_core.specs.World.{whole_table}
 use Rattle.cluster_core.specs.Report.{verdict_line, all_chunks, verdicts_on, replica_verdicts, verdicts_from}

@@ -4,7 +4,7 @@ use Rattle.std.specs.List.{AllByRecursion}
 use Rattle.row_types.specs.declared.values.Value.{Value}
 use Rattle.row_types.specs.declared.table_schema.Schema.{Schema}
 use Rattle.ptc_statement.specs.Planned.{replaced}
-use Rattle.history.specs.Digest.{IsCheckable}
+use Rattle.row_digest.specs.Digest.{IsCheckable}
 use Rattle.history.specs.Replay.{table_rows}
 
 -- the rows of each table can be encoded and have their key

@@ -13,8 +13,8 @@ use Rattle.ptc_statement.specs.Fits.{IsClients}
 use Rattle.history.specs.declared.entries.Origin.{Origin}
 use Rattle.history.specs.declared.entries.Origin.TheVariants.{Session, Checksum, Applied}
 use Rattle.history.specs.declared.entries.Entry.{Entry}
-use Rattle.history.specs.declared.checks.Verdict.TheVariants.{Same, Differ, Pending}
-use Rattle.history.specs.Digest.{digest_of}
+use Rattle.checksum_table.specs.declared.check_rows.Verdict.TheVariants.{Same, Differ, Pending}
+use Rattle.row_digest.specs.Digest.{digest_of}
 use Rattle.history.specs.Replay.{chunk_rows, source_at, replica_at, Follows}
 use Rattle.history.specs.Headline.{MastersAreTrue, HasStatementAt, DigestsDistinguish}
 use Rattle.cluster_core.specs.Node.{NodeView}

@@ -13,11 +13,11 @@ use Rattle.ptc_statement.specs.declared.statements.Statement.{Statement}
 use Rattle.history.specs.declared.entries.Origin.{Origin}
 use Rattle.history.specs.declared.entries.Origin.TheVariants.{Session, Checksum, Applied}
 use Rattle.history.specs.declared.entries.Entry.{Entry}
-use Rattle.history.specs.declared.checks.CheckRow.{CheckRow}
-use Rattle.history.specs.declared.checks.CheckEntry.{CheckEntry}
-use Rattle.history.specs.declared.checks.Verdict.{Verdict}
-use Rattle.history.specs.declared.checks.Verdict.TheVariants.{Same, Differ, Pending}
-use Rattle.history.specs.Checks.{check_at, with_absent, verdict_of_row}
+use Rattle.checksum_table.specs.declared.check_rows.CheckRow.{CheckRow}
+use Rattle.checksum_table.specs.declared.check_rows.CheckEntry.{CheckEntry}
+use Rattle.checksum_table.specs.declared.check_rows.Verdict.{Verdict}
+use Rattle.checksum_table.specs.declared.check_rows.Verdict.TheVariants.{Same, Differ, Pending}
+use Rattle.checksum_table.specs.Checks.{check_at, with_absent, verdict_of_row}
 use Rattle.cluster_core.specs.Node.{NodeView, replayed_of}
 use Rattle.cluster_core.specs.Sessions.{SessionView}
 use Rattle.cluster_core.specs.World.{WorldView}

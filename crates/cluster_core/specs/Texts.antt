@@ -24,7 +24,7 @@ use Rattle.ptc_statement.specs.declared.expressions.Expr.TheVariants.{Lit, Cell}
 use Rattle.ptc_statement.specs.declared.expressions.Cond.{Cond}
 use Rattle.ptc_statement.specs.declared.expressions.Cond.TheVariants.{Compare}
 use Rattle.ptc_statement.specs.declared.expressions.Assignment.{Assignment}
-use Rattle.history.specs.Digest.{crc_text}
+use Rattle.row_digest.specs.Digest.{crc_text}
 
 -- the name of the table of this number
 unfoldable pub name_of : List Schema → ℕ → List ℕ

@@ -10,8 +10,8 @@ use Rattle.ptc_statement.specs.declared.statements.Statement.{Statement}
 use Rattle.ptc_statement.specs.declared.statements.Statement.TheVariants.{Check as CheckStatement, SetMaster, ClearChecks}
 use Rattle.history.specs.declared.entries.Origin.TheVariants.{Checksum}
 use Rattle.history.specs.declared.entries.Entry.{Entry}
-use Rattle.history.specs.declared.checks.CheckRow.{CheckRow}
-use Rattle.history.specs.Checks.{check_at}
+use Rattle.checksum_table.specs.declared.check_rows.CheckRow.{CheckRow}
+use Rattle.checksum_table.specs.Checks.{check_at}
 use Rattle.history.specs.Replay.{applied_of, applying}
 use Rattle.cluster_core.specs.Node.{NodeView, replayed_of, logged}
 use Rattle.cluster_core.specs.Sessions.{SessionView, unstarted, line_left}

@@ -4,13 +4,15 @@ ghost use Rattle.row_types.specs.Fit.{IsSchema, AreTables};
 ghost use Rattle.ptc_statement.specs.Effect.{table_of};
 ghost use Rattle.ptc_statement.specs.Fits.{FitsSchemas};
 ghost use Rattle.ptc_statement.specs.Planned.{replaced};
-ghost use Rattle.history.specs.Digest.{digest_of};
+ghost use Rattle.row_digest.specs.Digest.{digest_of};
 ghost use Rattle.history.specs.Replay.{applied_of, checks_after, chunk_rows, position_of, table_rows, tables_after};
 ghost use Rattle.cluster_core.specs.Node.{replayed_of, logged, row_on};
 ghost use Rattle.cluster_core.specs.Checkable.{AreCheckable, with_change};
 
-use history::{CheckRow, Checks, Entries, Entry, Origin, digest_rows};
+use checksum_table::{CheckRow, Checks};
+use history::{Entries, Entry, Origin};
 use ptc_statement::{Change, Statement, Statements, apply_change, has_key_of, planned};
+use row_digest::digest_rows;
 use row_types::{Digest, DigestKind, R, Row, Rows, Schemas, Span, Tables};
 use std::alloc::Global;
 use std::marker::Model;

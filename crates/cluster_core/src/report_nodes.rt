@@ -10,7 +10,7 @@ use crate::report::{push_equal, push_history, push_replica_tables};
 use crate::report_duplicates::push_duplicates;
 use crate::report_verdicts::push_verdicts;
 use crate::sessions::Session;
-use history::Checks;
+use checksum_table::Checks;
 use row_types::{R, SchemaList, Tables};
 use std::alloc::Global;
 

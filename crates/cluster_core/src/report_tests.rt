@@ -2,7 +2,8 @@ use crate::report::{push_equal, push_head, push_log};
 use crate::report_duplicates::push_duplicates;
 use crate::report_verdicts::push_verdicts;
 use crate::statement_texts::push_statement;
-use history::{CheckEntry, CheckRow, Checks, Entries, Entry, Origin};
+use checksum_table::{CheckEntry, CheckRow, Checks};
+use history::{Entries, Entry, Origin};
 use ptc_statement::{Assignment, Cond, Expr, Op, Sets, Statement, Statements};
 use row_types::{
     Bytes, Column, ColumnKind, Columns, Digest, DigestKind, Edge, Key, R, Row, Rows, Schema,

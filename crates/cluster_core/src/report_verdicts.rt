@@ -6,7 +6,7 @@ ghost use Rattle.cluster_core.specs.Report.{verdict_line, all_chunks, replica_ve
 
 use crate::report::push_replica;
 use crate::texts::{push_bytes, push_name, push_number, push_span};
-use history::{CheckEntry, CheckRow, Checks, Verdict};
+use checksum_table::{CheckEntry, CheckRow, Checks, Verdict};
 use row_types::{R, SchemaList, Span};
 use std::alloc::Global;
 

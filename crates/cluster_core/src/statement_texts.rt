@@ -6,8 +6,8 @@ ghost use Rattle.cluster_core.specs.Texts.{column_name as column_name_in};
 use crate::texts::{
     push_bytes, push_digest_kind, push_name, push_number, push_span, push_tuple, push_value,
 };
-use history::crc_text;
 use ptc_statement::{Assignment, Cond, Expr, Op, Statement};
+use row_digest::crc_text;
 use row_types::{Digest, DigestKind, R, SchemaList, Span};
 use std::alloc::Global;
 

@@ -1,7 +1,7 @@
 ghost use Rattle.std.specs.Prelude.{◌≡◌, ◌<◌, ◌≤◌, ◌↔◌, ◌++◌, [], ◌∷◌, IsTrue, IfOk, OnOk, OnErr, None, Some, is_some, unwrap_or, map, IfSome};
 ghost use Rattle.std.specs.List.{AllByRecursion, slice_get};
 ghost use Rattle.row_types.specs.Fit.{IsSchema, AreTables};
-ghost use Rattle.history.specs.Checks.{check_at};
+ghost use Rattle.checksum_table.specs.Checks.{check_at};
 ghost use Rattle.cluster_core.specs.Node.{replayed_of};
 ghost use Rattle.cluster_core.specs.Workload.{IsWorkload};
 ghost use Rattle.cluster_core.specs.Sessions.{unstarted};

@@ -10,13 +10,14 @@ use Rattle.row_types.specs.declared.table_schema.Schema.{Schema}
 use Rattle.ptc_statement.specs.declared.statements.Statement.{Statement}
 use Rattle.ptc_statement.specs.declared.statements.Statement.TheVariants.{Insert, Delete, Update, Check, SetMaster, ClearChecks}
 use Rattle.history.specs.declared.entries.Entry.{Entry}
-use Rattle.history.specs.declared.checks.CheckRow.{CheckRow}
-use Rattle.history.specs.declared.checks.Verdict.TheVariants.{Same, Differ, Pending}
-use Rattle.history.specs.Checks.{check_at, mastered, digest_eq, verdict_against, verdict_of_row}
-use Rattle.history.specs.Digest.{digest_of}
+use Rattle.checksum_table.specs.declared.check_rows.CheckRow.{CheckRow}
+use Rattle.checksum_table.specs.declared.check_rows.Verdict.TheVariants.{Same, Differ, Pending}
+use Rattle.checksum_table.specs.Checks.{check_at, mastered, digest_eq, verdict_against, verdict_of_row}
+use Rattle.row_digest.specs.Digest.{digest_of}
+use Rattle.row_digest.proofs.DigestLemmas.{digest_of-count}
 use Rattle.history.specs.Replay.{Replayed, chunk_rows, tables_after, checks_after, after_statement, position_of, fold, source_at, replica_at, applying, applied_of, Follows}
 use Rattle.history.specs.Headline.{IsTrueMaster, MastersAreTrue, Compares, HasStatementAt, EachVerdictCompares}
-use Rattle.history.proofs.CheckLemmas.{check_at-with_check, check_at-with_master, check_at-without_table, digest_eq-Decides}
+use Rattle.checksum_table.proofs.CheckLemmas.{check_at-with_check, check_at-with_master, check_at-without_table, digest_eq-Decides}
 use Rattle.history.proofs.ReplayLemmas.{tables_after-check, after_entry-one, fold-take_more, follows_at, follows_length, applied_of-follows, masters_at, up_to_applied-follows}
 
 -- at a position that the history has applied the log has the CHECKSUM of the chunk
@@ -214,8 +215,8 @@ compares_of row master source_rows replica_rows known source_sum own_sum =
     let differs : verdict_of_row row ≡ Differ → digest_of row.kind source_rows ≢ digest_of row.kind replica_rows =
     λ v q. differ_says master row.this (digest_eq master row.this) refl (sym verdict ∙ v) (source_sum ∙ q ∙ sym own_sum) in
     record {
-      master_count = subst (λ (o : Option Digest). IfSome o (λ m. m.count ≡ length source_rows)) (sym known) (ap (λ (d : Digest). d.count) source_sum);
-      own_count = ap (λ (d : Digest). d.count) own_sum;
+      master_count = subst (λ (o : Option Digest). IfSome o (λ m. m.count ≡ length source_rows)) (sym known) (ap (λ (d : Digest). d.count) source_sum ∙ digest_of-count row.kind source_rows);
+      own_count = ap (λ (d : Digest). d.count) own_sum ∙ digest_of-count row.kind replica_rows;
       differ = (differs, λ apart. verdict ∙ differ_holds master row.this (digest_eq master row.this) refl (λ q. apart (sym source_sum ∙ q ∙ own_sum)));
       rows_differ = λ v q. differs v (ap (digest_of row.kind) q);
       rows_same = λ v distinguish. distinguish (sym source_sum ∙ same_says master row.this (digest_eq master row.this) refl (sym verdict ∙ v) ∙ own_sum);

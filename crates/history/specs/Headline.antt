@@ -8,10 +8,10 @@ use Rattle.row_types.specs.declared.table_schema.Schema.{Schema}
 use Rattle.ptc_statement.specs.declared.statements.Statement.{Statement}
 use Rattle.ptc_statement.specs.declared.statements.Statement.TheVariants.{Insert, Delete, Update, Check, SetMaster, ClearChecks}
 use Rattle.history.specs.declared.entries.Entry.{Entry}
-use Rattle.history.specs.declared.checks.CheckRow.{CheckRow}
-use Rattle.history.specs.declared.checks.Verdict.TheVariants.{Same, Differ, Pending}
-use Rattle.history.specs.Checks.{check_at, verdict_of_row}
-use Rattle.history.specs.Digest.{digest_of}
+use Rattle.checksum_table.specs.declared.check_rows.CheckRow.{CheckRow}
+use Rattle.checksum_table.specs.declared.check_rows.Verdict.TheVariants.{Same, Differ, Pending}
+use Rattle.checksum_table.specs.Checks.{check_at, verdict_of_row}
+use Rattle.row_digest.specs.Digest.{digest_of}
 use Rattle.history.specs.Replay.{Replayed, chunk_rows, after_entry, fold, source_at, replica_at, applied_of}
 
 -- a SETMASTER publishes the checksum that the check row of its chunk has there

@@ -11,9 +11,9 @@ use Rattle.ptc_statement.specs.Effect.{table_of, rows_after}
 use Rattle.history.specs.declared.entries.Origin.{Origin}
 use Rattle.history.specs.declared.entries.Origin.TheVariants.{Session, Checksum, Applied}
 use Rattle.history.specs.declared.entries.Entry.{Entry}
-use Rattle.history.specs.declared.checks.CheckEntry.{CheckEntry}
-use Rattle.history.specs.Checks.{with_check, with_master, without_table}
-use Rattle.history.specs.Digest.{rows_in, digest_of}
+use Rattle.checksum_table.specs.declared.check_rows.CheckEntry.{CheckEntry}
+use Rattle.checksum_table.specs.Checks.{with_check, with_master, without_table}
+use Rattle.row_digest.specs.Digest.{rows_in, digest_of}
 
 -- what is there at a point: the rows of each table, and the check rows
 pub record Replayed : Type 0 where

@@ -1,9 +1,7 @@
-ghost use Rattle.std.specs.Prelude.{List, IsTrue, ◌↔◌, ◌≡◌};
+ghost use Rattle.std.specs.Prelude.{List};
 ghost use Rattle.row_types.specs.declared.values.Value.{Value};
-ghost use Rattle.row_types.specs.declared.digests.Digest.{Digest};
 ghost use Rattle.row_types.specs.declared.table_schema.Schema.{Schema};
 ghost use Rattle.history.specs.declared.entries.Entry.{Entry};
-ghost use Rattle.history.specs.Checks.{digest_eq};
 ghost use Rattle.history.specs.Replay.{Follows};
 ghost use Rattle.history.specs.Headline.{MastersAreTrue, EachVerdictCompares};
 
@@ -16,9 +14,4 @@ pub fn each_verdict_compares()
         → MastersAreTrue schemas source_start log
         → Follows log history
         → EachVerdictCompares schemas source_start log replica_start history }
-{}
-
-/// The test of two digests is their equality.
-pub fn digest_test_is_equality()
-    ensures { (d e : Digest) → IsTrue (digest_eq d e) ↔ (d ≡ e) }
 {}

@@ -1,17 +1,11 @@
-//! What a log says: entries, the digests and check rows that their replay leaves, and the verdict on
-//! a check row.
+//! What a log says: entries, what their replay leaves of tables and check rows, and what the verdict
+//! on a replica's check row compares.
 #![tactic(auto)]
 
-pub mod checks;
-pub mod digest_laws;
 pub mod entries;
 pub mod laws;
-pub mod row_digest;
 
-pub use checks::{CheckEntry, CheckRow, Checks, Verdict};
-pub use digest_laws::encodings_tell_rows_apart;
 pub use entries::{Entries, Entry, Origin};
-pub use row_digest::{add, crc_text, digest_rows, encode};
 
 #[cfg(test)]
 mod tests;

@@ -1,0 +1,5 @@
+pub mod CheckLemmas
+pub mod LastLemmas
+pub mod MapLemmas
+pub mod OrderLemmas
+pub mod PlaceLemmas
