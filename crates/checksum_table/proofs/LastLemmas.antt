@@ -1,12 +1,12 @@
 -- The last chunk of a table.
-use Rattle.std.proofs.Common.{◌≡◌, ◌≢◌, ◌∙◌, ◌⊎◌, ℕ, zero, suc, ◌+◌, ◌-◌, ◌<◌, ◌≤◌, ◌==◌, ◌&&◌, cond, leb, true, false, Bool, List, [], ◌∷◌, length, get_or, Option, Some, None, max, refl, ap, sym, subst, arith, leb-true}
+use Rattle.std.proofs.Common.{◌≡◌, ◌≢◌, ◌∙◌, ◌⊎◌, ℕ, zero, suc, ◌-◌, ◌<◌, ◌≤◌, ◌==◌, cond, true, false, List, [], ◌∷◌, length, get_or, Option, Some, None, max, refl, ap, subst, arith}
 use Rattle.std.proofs.lemmas.Bool.Decides.{nat_tests}
 use Rattle.std.specs.Prelude.{is_some}
 use Rattle.std.specs.List.Sorted.{IsNonDecreasingBy}
 use Rattle.std.specs.declared.cmp.Ordering.TheVariants.{Less}
 use Rattle.checksum_table.specs.declared.check_rows.CheckRow.{CheckRow}
 use Rattle.checksum_table.specs.declared.check_rows.CheckEntry.{CheckEntry}
-use Rattle.checksum_table.specs.Checks.{place_cmp, is_for, IsByPlace, check_at, last_chunk}
+use Rattle.checksum_table.specs.Checks.{place_cmp, IsByPlace, check_at, last_chunk}
 use Rattle.checksum_table.specs.Places.{IsEndOf}
 use Rattle.checksum_table.proofs.OrderLemmas.{less_is, each_at}
 

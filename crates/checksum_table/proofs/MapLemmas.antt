@@ -1,11 +1,11 @@
 -- Check rows by place that agree at each chunk are the same.
-use Rattle.std.proofs.Common.{◌≡◌, ◌∙◌, ℕ, Bool, true, false, cond, List, [], ◌∷◌, Option, Some, None, refl, ap, sym, subst, arith}
+use Rattle.std.proofs.Common.{◌≡◌, ◌∙◌, ℕ, Bool, true, false, cond, List, [], ◌∷◌, Option, Some, None, refl, ap, sym, subst}
 use Rattle.std.specs.declared.cmp.Ordering.{Ordering}
 use Rattle.std.specs.declared.cmp.Ordering.TheVariants.{Less, Equal, Greater}
 use Rattle.checksum_table.specs.declared.check_rows.CheckRow.{CheckRow}
 use Rattle.checksum_table.specs.declared.check_rows.CheckEntry.{CheckEntry}
-use Rattle.checksum_table.specs.Checks.{place_cmp, is_for, IsBelowEach, IsByPlace, check_at}
-use Rattle.checksum_table.proofs.OrderLemmas.{pair_cmp, place, pairs_total, turn_greater, tied, less_is_other, equal_is_for, each_behind, own_place, is_for_place}
+use Rattle.checksum_table.specs.Checks.{is_for, IsBelowEach, IsByPlace, check_at}
+use Rattle.checksum_table.proofs.OrderLemmas.{pair_cmp, place, turn_greater, tied, less_is_other, equal_is_for, each_behind, own_place, is_for_place}
 
 -- a chunk before all entries has no row
 below_none : (table chunk : ℕ) (entries : List CheckEntry) → IsBelowEach table chunk entries → check_at table chunk entries ≡ None

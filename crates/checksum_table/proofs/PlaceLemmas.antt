@@ -1,5 +1,5 @@
 -- What a halving search finds among check rows by place.
-use Rattle.std.proofs.Common.{◌≡◌, ◌∙◌, ℕ, zero, suc, ◌+◌, ◌<◌, ◌≤◌, cond, leb, true, false, List, [], ◌∷◌, length, get_or, Some, None, Result, Ok, Err, IfOk, IfErr, refl, ap, sym, subst, arith, add-one}
+use Rattle.std.proofs.Common.{◌≡◌, ◌∙◌, ℕ, zero, suc, ◌<◌, ◌≤◌, cond, false, List, [], ◌∷◌, length, get_or, Some, None, Result, Ok, Err, IfOk, IfErr, refl, ap, sym, subst, arith, add-one}
 use Rattle.std.specs.Prelude.{slice_set}
 use Rattle.std.specs.List.{insert}
 use Rattle.std.specs.List.Sorted.{IsSearchInRange, IsBinarySearchResult, IsNonDecreasingBy, IsSortedBy}
@@ -7,7 +7,6 @@ use Rattle.std.specs.Ordering.{is_lt, match_ordering, ordering_index}
 use Rattle.std.specs.declared.cmp.Ordering.TheVariants.{Less, Equal, Greater}
 use Rattle.std.proofs.lemmas.List.Sorted.{searchable_from_sorted}
 use Rattle.row_types.specs.declared.digests.Digest.{Digest}
-use Rattle.checksum_table.specs.declared.check_rows.CheckRow.{CheckRow}
 use Rattle.checksum_table.specs.declared.check_rows.CheckEntry.{CheckEntry}
 use Rattle.checksum_table.specs.Checks.{place_cmp, IsByPlace, check_at, with_check, with_absent, with_master, mastered}
 use Rattle.checksum_table.specs.Places.{IsFoundAt, IsFreeAt}

@@ -100,7 +100,8 @@ impl Checks {
         }
     }
 
-    /// Makes this the chunk's row, in place of an earlier one; a refusal leaves the list as it was.
+    /// Makes this the chunk's row, in place of an earlier one, as the tool's REPLACE does
+    /// (pt-table-checksum's manual, the option --replicate); a refusal leaves the list as it was.
     pub fn set(&mut self, table: u32, chunk: u32, row: CheckRow) -> R<()>
         ensures ok { OnOk result (self.new ≡ with_check table chunk row self.old) }
         ensures err { OnErr result (self.new ≡ self.old) }
@@ -108,8 +109,9 @@ impl Checks {
         put(&mut self.items, CheckEntry { table, chunk, row })
     }
 
-    /// Fills in the source's checksum of a chunk whose row stands, and says whether it does; else it
-    /// changes nothing.
+    /// Fills in the source's checksum of a chunk whose row stands (`master_cnt` and `master_crc` in
+    /// pt-table-checksum's manual, the option --replicate), and says whether it does; else it changes
+    /// nothing.
     pub fn set_master(&mut self, table: u32, chunk: u32, master: Digest) -> bool
         ensures value { self.new ≡ with_master table chunk master self.old }
         ensures found { result ≡ is_some (check_at table chunk self.old) }
@@ -117,7 +119,8 @@ impl Checks {
         put_master(&mut self.items, table, chunk, master)
     }
 
-    /// Forgets the rows of a table.
+    /// Forgets the rows of a table alone, as the tool does before it checks one (pt-table-checksum's
+    /// manual, the option --empty-replicate-table).
     pub fn clear(&mut self, table: u32)
         ensures { self.new ≡ without_table table self.old }
     {

@@ -9,9 +9,10 @@ use row_types::{Digest, DigestKind, R, Row, Schema, Span};
 use sha1::Sha1;
 use std::alloc::Global;
 
-/// Counts a row into a checksum and combines its digest into the XOR; MD5 has 16 bytes, so it changes
-/// the first 16 of the 20. The count is to be below u64::MAX, and each text of the row to have fewer
-/// than 4,294,967,296 bytes. A refusal leaves the checksum as it was.
+/// Counts a row into a checksum and combines its digest into the XOR, as COUNT and BIT_XOR do in the
+/// tool's query (pt-table-checksum's manual, the options --replicate and --function); MD5 has 16
+/// bytes, so it changes the first 16 of the 20. The count is to be below u64::MAX, and each text of the
+/// row to have fewer than 4,294,967,296 bytes. A refusal leaves the checksum as it was.
 pub fn add(alloc: Global, digest: &mut Digest, kind: DigestKind, row: &Row) -> R<()>
     requires counts { digest.old.count + 1 < 2 ^ 64 }
     requires encodable { IsEncodable row.now }
@@ -49,7 +50,8 @@ fn combine(bytes: &mut [u8], hash: &[u8])
     }
 }
 
-/// The checksum of the rows whose key lies in the span.
+/// The checksum of the rows whose key lies in the span. Each row is to have the values of the key, and
+/// its texts fewer than 4,294,967,296 bytes.
 pub fn digest_rows(
     alloc: Global,
     kind: DigestKind,

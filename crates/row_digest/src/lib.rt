@@ -1,5 +1,5 @@
-//! The encoding of a row, and checksums of rows: a count, and the XOR of the digests of their
-//! encodings (pt-table-checksum's manual, "How it works": BIT_XOR of a digest a row, beside COUNT).
+//! The encoding of a row, and checksums of rows: a count, and the XOR of a digest of each row's
+//! encoding, as pt-table-checksum makes of a chunk (its manual, the option --function).
 #![tactic(auto)]
 
 pub mod checksums;

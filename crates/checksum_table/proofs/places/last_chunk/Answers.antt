@@ -1,4 +1,4 @@
-use Rattle.std.proofs.Common.{◌≡◌, ◌≢◌, ◌∙◌, sym, ap, subst, arith}
+use Rattle.std.proofs.Common.{◌∙◌, sym, ap}
 use Rattle.checksum_table.specs.declared.check_rows.CheckEntry.{CheckEntry}
 use Rattle.checksum_table.proofs.LastLemmas.{end_at_start, end_behind_other, end_behind_last}
 use Rattle.checksum_table.proofs.places.last_chunk.Goals as goal
