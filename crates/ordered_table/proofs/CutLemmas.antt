@@ -1,0 +1,210 @@
+-- The place of a key or an edge among rows that rise by key.
+use Rattle.std.proofs.Common.{◌≡◌, ◌∙◌, ℕ, zero, suc, ◌+◌, ◌-◌, ◌<◌, ◌≤◌, Bool, true, false, not, cond, Option, Some, None, List, [], ◌∷◌, ◌++◌, length, take, drop, refl, ap, sym, subst, arith}
+use Rattle.std.specs.Prelude.{slice_index_or, filter, ◌&&◌}
+use Rattle.std.specs.List.{AllByRecursion}
+use Rattle.std.specs.Ordering.{is_le, is_lt, ordering_then}
+use Rattle.std.specs.declared.cmp.Ordering.{Ordering}
+use Rattle.std.specs.declared.cmp.Ordering.TheVariants.{Less, Equal, Greater}
+use Rattle.row_types.specs.declared.values.Value.{Value}
+use Rattle.row_types.specs.declared.edges.Edge.{Edge}
+use Rattle.row_types.specs.declared.edges.Edge.TheVariants.{Low, Before, After, High}
+use Rattle.row_types.specs.declared.edges.Span.{Span}
+use Rattle.row_types.specs.Order.{key_cmp, edge_le, is_past_edge, is_before_edge, has}
+use Rattle.row_types.proofs.OrderLemmas.{key_at_most, key_below}
+use Rattle.row_types.proofs.SpanLemmas.{past_or_before}
+use Rattle.ordered_table.specs.KeyRows.{AreOrdered, rows_past, rows_before, rows_in}
+use Rattle.ordered_table.specs.Places.{key_at, is_past, IsCut}
+
+is_less : (o : Ordering) → is_lt o ≡ true → o ≡ Less
+is_less Less e = refl
+is_less Equal e = cc
+is_less Greater e = cc
+
+-- a key that is past stays so at a greater key
+past_stays : (strictly : Bool) (key a b : List Value) → is_past strictly key a ≡ true → key_cmp a b ≡ Less → is_past strictly key b ≡ true
+past_stays true key a b past below = ap is_lt (key_below key a b (is_less (key_cmp key a) past) below)
+past_stays false key a b past below = ap is_le (key_at_most key a b past below)
+
+all_at : (P : List Value → Type 0) (rows : List (List Value)) (k : ℕ) → AllByRecursion P rows → k < length rows → P (slice_index_or rows k [])
+all_at P [] k all within = absurd (omega arith)
+all_at P (row ∷ rows) zero all within = all.0
+all_at P (row ∷ rows) (suc k) all within = all_at P rows k all.1 (omega arith)
+
+past_behind : (key_len : ℕ) (strictly : Bool) (key : List Value) (rows : List (List Value)) (j k : ℕ) → AreOrdered key_len rows
+    → j ≤ k → k < length rows → is_past strictly key (key_at key_len rows j) ≡ true → is_past strictly key (key_at key_len rows k) ≡ true
+past_behind key_len strictly key [] j k ordered le within past = absurd (omega arith)
+past_behind key_len strictly key (row ∷ rows) zero zero ordered le within past = past
+past_behind key_len strictly key (row ∷ rows) zero (suc k) ordered le within past =
+    past_stays strictly key (take key_len row) (key_at key_len rows k) past
+    (all_at (λ (other : List Value). key_cmp (take key_len row) (take key_len other) ≡ Less) rows k ordered.1 (omega arith))
+past_behind key_len strictly key (row ∷ rows) (suc j) zero ordered le within past = absurd (omega arith)
+past_behind key_len strictly key (row ∷ rows) (suc j) (suc k) ordered le within past =
+    past_behind key_len strictly key rows j k ordered.2 (omega arith) (omega arith) past
+
+not_true : (b : Bool) → (b ≡ true → false ≡ true) → b ≡ false
+not_true true h = sym (h refl)
+not_true false h = refl
+
+past_before : (key_len : ℕ) (strictly : Bool) (key : List Value) (rows : List (List Value)) (j k : ℕ) → AreOrdered key_len rows
+    → j ≤ k → k < length rows → is_past strictly key (key_at key_len rows k) ≡ false → is_past strictly key (key_at key_len rows j) ≡ false
+past_before key_len strictly key rows j k ordered le within past =
+    not_true (is_past strictly key (key_at key_len rows j)) (λ h. sym past ∙ past_behind key_len strictly key rows j k ordered le within h)
+
+-- what is known of a place that lies between two numbers
+pub record IsNarrowed (key_len : ℕ) (test : List Value → Bool) (rows : List (List Value)) (low high : ℕ) : Type 0 where
+  pub ordered : low ≤ high
+  pub within : high ≤ length rows
+  pub before : (k : ℕ) → k < low → test (key_at key_len rows k) ≡ false
+  pub behind : (k : ℕ) → high ≤ k → k < length rows → test (key_at key_len rows k) ≡ true
+
+pub narrowed_start : (key_len : ℕ) (test : List Value → Bool) (rows : List (List Value)) → IsNarrowed key_len test rows 0 (length rows)
+narrowed_start key_len test rows = record {
+  ordered = omega arith;
+  within = omega arith;
+  before = λ k h. absurd (omega arith);
+  behind = λ k h w. absurd (omega arith);
+}
+
+pub narrowed_low : (key_len : ℕ) (strictly : Bool) (key : List Value) (rows : List (List Value)) (low high middle : ℕ) → AreOrdered key_len rows
+    → IsNarrowed key_len (is_past strictly key) rows low high → low ≤ middle → middle < high
+    → is_past strictly key (key_at key_len rows middle) ≡ true
+    → IsNarrowed key_len (is_past strictly key) rows low middle
+narrowed_low key_len strictly key rows low high middle ordered narrowed le below past = record {
+  ordered = le;
+  within = let w : high ≤ length rows = narrowed.within in omega arith;
+  before = narrowed.before;
+  behind = λ k h w. past_behind key_len strictly key rows middle k ordered h w past;
+}
+
+pub narrowed_high : (key_len : ℕ) (strictly : Bool) (key : List Value) (rows : List (List Value)) (low high middle : ℕ) → AreOrdered key_len rows
+    → IsNarrowed key_len (is_past strictly key) rows low high → low ≤ middle → middle < high
+    → is_past strictly key (key_at key_len rows middle) ≡ false
+    → IsNarrowed key_len (is_past strictly key) rows (middle + 1) high
+narrowed_high key_len strictly key rows low high middle ordered narrowed le below past =
+    let w : high ≤ length rows = narrowed.within in
+    record {
+      ordered = omega arith;
+      within = narrowed.within;
+      before = λ k h. past_before key_len strictly key rows k middle ordered (omega arith) (omega arith) past;
+      behind = narrowed.behind;
+    }
+
+pub narrowed_end : (key_len : ℕ) (test : List Value → Bool) (rows : List (List Value)) (low high : ℕ)
+    → IsNarrowed key_len test rows low high → high ≤ low → IsCut key_len test rows low
+narrowed_end key_len test rows low high narrowed done =
+    let o : low ≤ high = narrowed.ordered in
+    let w : high ≤ length rows = narrowed.within in
+    record {
+      within = omega arith;
+      before = narrowed.before;
+      behind = λ k h v. narrowed.behind k (omega arith) v;
+    }
+
+-- a row that an index gave is the one of its number
+pub index_is : (rows : List (List Value)) (k : ℕ) (row : List Value) → k < length rows → row ≡ slice_index_or rows k row → slice_index_or rows k [] ≡ row
+index_is [] k row within is = absurd (omega arith)
+index_is (first ∷ rows) zero row within is = sym is
+index_is (first ∷ rows) (suc k) row within is = index_is rows k row (omega arith) is
+
+-- equal tests cut at one place
+cut_same : (key_len : ℕ) (p q : List Value → Bool) (rows : List (List Value)) (place : ℕ) → ((key : List Value) → p key ≡ q key)
+    → IsCut key_len p rows place → IsCut key_len q rows place
+cut_same key_len p q rows place same cut = record {
+  within = cut.within;
+  before = λ k h. sym (same (key_at key_len rows k)) ∙ cut.before k h;
+  behind = λ k h w. sym (same (key_at key_len rows k)) ∙ cut.behind k h w;
+}
+
+after_is : (o : Ordering) → is_lt o ≡ is_le (ordering_then o Greater)
+after_is Less = refl
+after_is Equal = refl
+after_is Greater = refl
+
+pub cut_low : (key_len : ℕ) (rows : List (List Value)) → IsCut key_len (is_past_edge Low) rows 0
+cut_low key_len rows = record { within = omega arith; before = λ k h. absurd (omega arith); behind = λ k h w. refl }
+
+pub cut_high : (key_len : ℕ) (rows : List (List Value)) → IsCut key_len (is_past_edge High) rows (length rows)
+cut_high key_len rows = record { within = omega arith; before = λ k h. refl; behind = λ k h w. absurd (omega arith) }
+
+pub cut_before : (key_len : ℕ) (key : List Value) (rows : List (List Value)) (place : ℕ)
+    → IsCut key_len (is_past false key) rows place → IsCut key_len (is_past_edge (Before key)) rows place
+cut_before key_len key rows place = cut_same key_len (is_past false key) (is_past_edge (Before key)) rows place (λ other. refl)
+
+pub cut_after : (key_len : ℕ) (key : List Value) (rows : List (List Value)) (place : ℕ)
+    → IsCut key_len (is_past true key) rows place → IsCut key_len (is_past_edge (After key)) rows place
+cut_after key_len key rows place = cut_same key_len (is_past true key) (is_past_edge (After key)) rows place (λ other. after_is (key_cmp key other))
+
+-- a cut of all rows but the first, where that one fails the test
+pub cut_rest : (key_len : ℕ) (test : List Value → Bool) (row : List Value) (rows : List (List Value)) (place : ℕ)
+    → IsCut key_len test (row ∷ rows) (suc place) → IsCut key_len test rows place
+cut_rest key_len test row rows place cut =
+    let w : suc place ≤ suc (length rows) = cut.within in
+    record {
+      within = omega arith;
+      before = λ k h. cut.before (suc k) (omega arith);
+      behind = λ k h v. cut.behind (suc k) (omega arith) (omega arith);
+    }
+
+-- and where it passes it
+pub cut_none : (key_len : ℕ) (test : List Value → Bool) (row : List Value) (rows : List (List Value))
+    → IsCut key_len test (row ∷ rows) 0 → IsCut key_len test rows 0
+cut_none key_len test row rows cut = record {
+  within = omega arith;
+  before = λ k h. absurd (omega arith);
+  behind = λ k h v. cut.behind (suc k) (omega arith) (omega arith);
+}
+
+kept : (test : List Value → Bool) (row : List Value) (rows : List (List Value)) (passes : Bool) → test row ≡ passes
+    → filter test (row ∷ rows) ≡ cond passes (row ∷ filter test rows) (filter test rows)
+kept test row rows passes is = ap (λ (b : Bool). cond b (row ∷ filter test rows) (filter test rows)) is
+
+turned : (past before : Bool) → past ≡ not before → before ≡ not past
+turned true true e = cc
+turned true false e = refl
+turned false true e = refl
+turned false false e = cc
+
+-- a key is before an edge, or past it
+before_is : (edge : Edge) (key : List Value) → is_before_edge edge key ≡ not (is_past_edge edge key)
+before_is edge key = turned (is_past_edge edge key) (is_before_edge edge key) (past_or_before edge key)
+
+-- the rows past an edge are those from its place on
+pub past_from : (key_len : ℕ) (edge : Edge) (rows : List (List Value)) (place : ℕ) → IsCut key_len (is_past_edge edge) rows place
+    → rows_past key_len edge rows ≡ drop place rows
+past_from key_len edge [] zero cut = refl
+past_from key_len edge [] (suc place) cut = refl
+past_from key_len edge (row ∷ rows) zero cut =
+    kept (λ (other : List Value). is_past_edge edge (take key_len other)) row rows true (cut.behind 0 (omega arith) (omega arith))
+    ∙ ap (λ (rs : List (List Value)). row ∷ rs) (past_from key_len edge rows 0 (cut_none key_len (is_past_edge edge) row rows cut))
+past_from key_len edge (row ∷ rows) (suc place) cut =
+    kept (λ (other : List Value). is_past_edge edge (take key_len other)) row rows false (cut.before 0 (omega arith))
+    ∙ past_from key_len edge rows place (cut_rest key_len (is_past_edge edge) row rows place cut)
+
+-- the rows before an edge are those up to its place
+pub before_to : (key_len : ℕ) (edge : Edge) (rows : List (List Value)) (place : ℕ) → IsCut key_len (is_past_edge edge) rows place
+    → rows_before key_len edge rows ≡ take place rows
+before_to key_len edge [] zero cut = refl
+before_to key_len edge [] (suc place) cut = refl
+before_to key_len edge (row ∷ rows) zero cut =
+    kept (λ (other : List Value). is_before_edge edge (take key_len other)) row rows false
+    (before_is edge (take key_len row) ∙ ap not (cut.behind 0 (omega arith) (omega arith)))
+    ∙ before_to key_len edge rows 0 (cut_none key_len (is_past_edge edge) row rows cut)
+before_to key_len edge (row ∷ rows) (suc place) cut =
+    kept (λ (other : List Value). is_before_edge edge (take key_len other)) row rows true
+    (before_is edge (take key_len row) ∙ ap not (cut.before 0 (omega arith)))
+    ∙ ap (λ (rs : List (List Value)). row ∷ rs) (before_to key_len edge rows place (cut_rest key_len (is_past_edge edge) row rows place cut))
+
+both_kept : (past before : Bool) (row : List Value) (rows : List (List Value)) (test : List Value → Bool) → test row ≡ past
+    → cond (past && before) (row ∷ filter test rows) (filter test rows) ≡ filter test (cond before (row ∷ rows) rows)
+both_kept true true row rows test is = sym (kept test row rows true is)
+both_kept true false row rows test is = refl
+both_kept false true row rows test is = sym (kept test row rows false is)
+both_kept false false row rows test is = refl
+
+-- the rows in a span are those past its lower edge of those before its upper one
+pub span_is : (key_len : ℕ) (span : Span) (rows : List (List Value)) → rows_in key_len span rows ≡ rows_past key_len span.lo (rows_before key_len span.hi rows)
+span_is key_len span [] = refl
+span_is key_len span (row ∷ rows) =
+    ap (λ (rs : List (List Value)). cond (has span (take key_len row)) (row ∷ rs) rs) (span_is key_len span rows)
+    ∙ both_kept (is_past_edge span.lo (take key_len row)) (is_before_edge span.hi (take key_len row)) row (rows_before key_len span.hi rows)
+    (λ (other : List Value). is_past_edge span.lo (take key_len other)) refl

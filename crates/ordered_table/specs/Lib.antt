@@ -1,0 +1,5 @@
+pub mod KeyRows
+pub mod Places
+pub mod Neighbours
+pub mod TableView
+pub mod TableParts
