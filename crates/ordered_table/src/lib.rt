@@ -9,3 +9,6 @@ pub mod tables;
 
 pub use rows_ahead::RowsAhead;
 pub use tables::Table;
+
+#[cfg(test)]
+mod tests;

@@ -1,0 +1,288 @@
+use crate::{RowsAhead, Table};
+use row_types::{Bytes, Edge, Key, Memory, R, Row, Span, Value};
+use std::alloc::Global;
+
+fn row(alloc: Global, id: i64, v: i64) -> R<Row> {
+    let mut row = Row::new(alloc);
+    row.push(Value::Int(id))?;
+    row.push(Value::Int(v))?;
+    Ok(row)
+}
+
+fn key(alloc: Global, id: i64) -> R<Key> {
+    let mut key = Key::new(alloc);
+    key.push(Value::Int(id))?;
+    Ok(key)
+}
+
+/// A key of a number and a text.
+fn key_of_two(alloc: Global, id: i64, text: &[u8]) -> R<Key> {
+    let mut key = key(alloc, id)?;
+    key.push(Value::Text(Bytes {
+        items: Vec::from_slice(alloc, text)?,
+    }))?;
+    Ok(key)
+}
+
+/// Puts a row that the table takes.
+fn put(table: &mut Table, row: Row) -> R<Option<Row>> {
+    if !table.takes(&row) {
+        return Err(Memory);
+    }
+    match table.put(row) {
+        Ok(replaced) => Ok(replaced),
+        Err((_, memory)) => Err(memory),
+    }
+}
+
+/// Puts a row back where its key is present or a row is spare.
+fn put_back(alloc: Global, table: &mut Table, row: Row) -> R<Option<Row>> {
+    if !table.takes(&row) {
+        return Err(Memory);
+    }
+    let values = row.as_slice().split_at(table.key_len() as usize).0;
+    let key = Key::from_values(alloc, values)?;
+    if table.spare() == 0 && table.get(&key).is_none() {
+        return Err(Memory);
+    }
+    Ok(table.put_back(row))
+}
+
+/// The rows (10, 1), (15, 7), (20, 2), put in another order.
+fn three(alloc: Global) -> R<Table> {
+    let mut table = Table::new(alloc, 1);
+    for (id, v) in [(15, 7), (20, 2), (10, 1)] {
+        put(&mut table, row(alloc, id, v)?)?;
+    }
+    Ok(table)
+}
+
+/// Whether a row is there and has these two values.
+fn is_row(found: Option<&Row>, id: i64, v: i64) -> bool {
+    match found {
+        None => false,
+        Some(row) => match row.as_slice() {
+            [Value::Int(first), Value::Int(second)] => *first == id && *second == v,
+            _ => false,
+        },
+    }
+}
+
+/// Whether a key of one number is there, or none where none is wanted.
+fn is_key(found: Option<&[Value]>, want: Option<i64>) -> bool {
+    match (found, want) {
+        (None, None) => true,
+        (Some([Value::Int(id)]), Some(want)) => *id == want,
+        _ => false,
+    }
+}
+
+/// Whether the rows to come have these first values, and no others come.
+fn have_ids(ahead: RowsAhead, ids: &[i64]) -> bool {
+    let mut ahead = ahead;
+    for id in ids {
+        let found = match ahead.next_row() {
+            None => false,
+            Some(row) => matches!(row.as_slice().first(), Some(Value::Int(first)) if first == id),
+        };
+        if !found {
+            return false;
+        }
+    }
+    ahead.next_row().is_none()
+}
+
+/// An empty table has nothing anywhere.
+#[test]
+fn an_empty_table_has_no_rows(rt: HostRuntime) {
+    let alloc = rt.alloc();
+    let mut table = Table::new(alloc, 2);
+    let ten = key(alloc, 10).expect(&rt, "memory");
+    assert!(rt; table.is_empty() && table.len() == 0 && table.key_len() == 2);
+    assert!(rt; table.get(&ten).is_none() && table.remove(&ten).is_none());
+    assert!(rt; table.next(&Edge::Low).is_none() && table.prev(&Edge::High).is_none());
+    assert!(rt; table.nth(&Edge::Low, 1).is_none() && table.row_past(&Edge::Low).is_none());
+    let rows = table.rows(alloc, &Span::whole()).expect(&rt, "memory");
+    assert!(rt; rows.is_empty());
+}
+
+/// A row is found at its key alone, and a second one there takes its place.
+#[test]
+fn rows_are_put_and_taken_away(rt: HostRuntime) {
+    let alloc = rt.alloc();
+    let mut table = three(alloc).expect(&rt, "memory");
+    let fifteen = key(alloc, 15).expect(&rt, "memory");
+    let sixteen = key(alloc, 16).expect(&rt, "memory");
+    assert!(rt; table.len() == 3 && is_row(table.get(&fifteen), 15, 7));
+    assert!(rt; table.get(&sixteen).is_none());
+    let new = row(alloc, 15, 8).expect(&rt, "memory");
+    let replaced = put(&mut table, new).expect(&rt, "memory");
+    assert!(rt; is_row(replaced.as_ref(), 15, 7));
+    assert!(rt; table.len() == 3 && is_row(table.get(&fifteen), 15, 8));
+    assert!(rt; table.remove(&sixteen).is_none() && table.len() == 3);
+    let gone = table.remove(&fifteen);
+    assert!(rt; is_row(gone.as_ref(), 15, 8));
+    assert!(rt; table.get(&fifteen).is_none() && table.len() == 2);
+    assert!(rt; have_ids(table.each(&Span::whole()), &[10, 20]));
+}
+
+/// The keys on both sides of each edge, and the first to the fourth past it.
+#[test]
+fn edges_lie_between_keys(rt: HostRuntime) {
+    let alloc = rt.alloc();
+    let table = three(alloc).expect(&rt, "memory");
+    let before = Edge::Before(key(alloc, 15).expect(&rt, "memory"));
+    let after = Edge::After(key(alloc, 15).expect(&rt, "memory"));
+    let absent = Edge::After(key(alloc, 12).expect(&rt, "memory"));
+    assert!(rt; is_key(table.next(&Edge::Low), Some(10)) && is_key(table.prev(&Edge::Low), None));
+    assert!(rt; is_key(table.next(&before), Some(15)) && is_key(table.prev(&before), Some(10)));
+    assert!(rt; is_key(table.next(&after), Some(20)) && is_key(table.prev(&after), Some(15)));
+    assert!(rt; is_key(table.next(&absent), Some(15)) && is_key(table.prev(&absent), Some(10)));
+    assert!(rt; is_key(table.next(&Edge::High), None) && is_key(table.prev(&Edge::High), Some(20)));
+    assert!(rt; is_row(table.row_past(&after), 20, 2));
+    assert!(rt; is_key(table.nth(&before, 1), Some(15)) && is_key(table.nth(&before, 2), Some(20)));
+    assert!(rt; is_key(table.nth(&before, 3), None) && is_key(table.nth(&Edge::Low, 3), Some(20)));
+    assert!(rt; is_key(table.nth(&Edge::Low, u64::MAX), None));
+}
+
+/// The rows of a span, at its edges and where its edges leave none.
+#[test]
+fn spans_have_rows(rt: HostRuntime) {
+    let alloc = rt.alloc();
+    let table = three(alloc).expect(&rt, "memory");
+    let open = Span {
+        lo: Edge::After(key(alloc, 10).expect(&rt, "memory")),
+        hi: Edge::Before(key(alloc, 20).expect(&rt, "memory")),
+    };
+    let rows = table.rows(alloc, &open).expect(&rt, "memory");
+    assert!(rt; rows.len() == 1 && is_row(rows.as_slice().first(), 15, 7));
+    let closed = Span {
+        lo: Edge::Before(key(alloc, 10).expect(&rt, "memory")),
+        hi: Edge::After(key(alloc, 20).expect(&rt, "memory")),
+    };
+    let rows = table.rows(alloc, &closed).expect(&rt, "memory");
+    assert!(rt; rows.len() == 3 && have_ids(table.each(&closed), &[10, 15, 20]));
+    let crossed = Span {
+        lo: closed.hi,
+        hi: closed.lo,
+    };
+    let rows = table.rows(alloc, &crossed).expect(&rt, "memory");
+    assert!(rt; rows.is_empty() && have_ids(table.each(&crossed), &[]));
+}
+
+/// Keys of two columns, with edges at a first column alone.
+#[test]
+fn keys_have_two_columns(rt: HostRuntime) {
+    let alloc = rt.alloc();
+    let mut table = Table::new(alloc, 2);
+    for (id, text) in [(2, b"a"), (1, b"b"), (1, b"a")] {
+        let key = key_of_two(alloc, id, text).expect(&rt, "memory");
+        put(&mut table, Row { items: key.items }).expect(&rt, "memory");
+    }
+    let first = key_of_two(alloc, 1, b"a").expect(&rt, "memory");
+    let second = key_of_two(alloc, 1, b"b").expect(&rt, "memory");
+    let one = key(alloc, 1).expect(&rt, "memory");
+    assert!(rt; table.get(&first).is_some() && table.get(&one).is_none());
+    let next = table.next(&Edge::After(one)).expect(&rt, "a key");
+    let next = Key::from_values(alloc, next).expect(&rt, "memory");
+    assert!(rt; next.same(&first));
+    let next = table.next(&Edge::After(first)).expect(&rt, "a key");
+    let next = Key::from_values(alloc, next).expect(&rt, "memory");
+    assert!(rt; next.same(&second));
+    assert!(rt; have_ids(table.each(&Span::whole()), &[1, 1, 2]));
+    assert!(rt; !table.takes(&row_without_key(alloc).expect(&rt, "memory")));
+    assert!(rt; !table.takes(&Row::new(alloc)));
+}
+
+/// A row whose second value is NULL.
+fn row_without_key(alloc: Global) -> R<Row> {
+    let mut row = Row::new(alloc);
+    row.push(Value::Int(1))?;
+    row.push(Value::Null)?;
+    Ok(row)
+}
+
+/// Room that is promised stays until rows are put back, whatever is put in or taken away.
+#[test]
+fn room_is_promised(rt: HostRuntime) {
+    let alloc = rt.alloc();
+    let mut table = three(alloc).expect(&rt, "memory");
+    assert!(rt; table.spare() == 0);
+    let again = row(alloc, 15, 9).expect(&rt, "memory");
+    let replaced = put_back(alloc, &mut table, again).expect(&rt, "a present key");
+    assert!(rt; is_row(replaced.as_ref(), 15, 7) && table.spare() == 0);
+    table.reserve(2).expect(&rt, "memory");
+    let fifteen = key(alloc, 15).expect(&rt, "memory");
+    let taken = table.remove(&fifteen).expect(&rt, "a row");
+    let other = row(alloc, 1, 1).expect(&rt, "memory");
+    put(&mut table, other).expect(&rt, "memory");
+    assert!(rt; table.spare() >= 2);
+    table.reserve(1).expect(&rt, "memory");
+    assert!(rt; table.spare() >= 2);
+    let spare = table.spare();
+    let replaced = put_back(alloc, &mut table, taken).expect(&rt, "room");
+    assert!(rt; replaced.is_none() && table.spare() == spare - 1);
+    assert!(rt; is_row(table.get(&fifteen), 15, 9));
+    assert!(rt; have_ids(table.each(&Span::whole()), &[1, 10, 15, 20]));
+    let room = table.reserve(u64::MAX);
+    assert!(rt; room.is_err() && table.spare() == spare - 1 && table.len() == 4);
+}
+
+/// A number below 2,003, another for each number below 2,003.
+fn scattered(number: u16) -> i64 {
+    (number as u32 * 1237 % 2003) as i64
+}
+
+/// Two thousand rows, put in an order that jumps about.
+fn many(alloc: Global) -> R<Table> {
+    let mut table = Table::new(alloc, 1);
+    for number in 0..2000u16 {
+        put(&mut table, row(alloc, scattered(number), number as i64)?)?;
+    }
+    Ok(table)
+}
+
+/// How many rows there are, or none where one is not above the one before it.
+fn rising(ahead: RowsAhead) -> Option<usize> {
+    let mut ahead = ahead;
+    let mut last = -1;
+    for count in 0..5000 {
+        let Some(row) = ahead.next_row() else {
+            return Some(count);
+        };
+        let Some(Value::Int(id)) = row.as_slice().first() else {
+            return None;
+        };
+        if *id <= last {
+            return None;
+        }
+        last = *id;
+    }
+    None
+}
+
+/// A table of copies of a table's rows.
+#[tactic(auto, using(crate::proofs::OrderedLemmas::filter_ordered))]
+fn copy_of(alloc: Global, table: &Table) -> R<Table> {
+    let rows = table.rows(alloc, &Span::whole())?;
+    if rows.len() != table.len() {
+        return Err(Memory);
+    }
+    Table::from_rows(alloc, table.key_len(), rows.as_slice())
+}
+
+/// Rows put in any order come out by rising key, and a table is made of them again.
+#[test]
+fn many_rows_rise_by_key(rt: HostRuntime) {
+    let alloc = rt.alloc();
+    let table = many(alloc).expect(&rt, "memory");
+    assert!(rt; table.len() == 2000 && rising(table.each(&Span::whole())) == Some(2000));
+    for number in [0, 1, 999, 1999u16] {
+        let id = scattered(number);
+        let key = key(alloc, id).expect(&rt, "memory");
+        assert!(rt; is_row(table.get(&key), id, number as i64), "row {number}");
+    }
+    assert!(rt; is_key(table.prev(&Edge::High), Some(2002)));
+    let copy = copy_of(alloc, &table).expect(&rt, "memory");
+    assert!(rt; copy.len() == 2000 && rising(copy.each(&Span::whole())) == Some(2000));
+}
