@@ -1,5 +1,5 @@
 -- The place of a key or an edge among rows that rise by key.
-use Rattle.std.proofs.Common.{◌≡◌, ◌∙◌, ℕ, zero, suc, ◌+◌, ◌-◌, ◌<◌, ◌≤◌, Bool, true, false, not, cond, Option, Some, None, List, [], ◌∷◌, ◌++◌, length, take, drop, refl, ap, sym, subst, arith}
+use Rattle.std.proofs.Common.{◌≡◌, ◌∙◌, ℕ, zero, suc, ◌+◌, ◌<◌, ◌≤◌, Bool, true, false, not, cond, List, [], ◌∷◌, length, take, drop, refl, ap, sym, arith}
 use Rattle.std.specs.Prelude.{slice_index_or, filter, ◌&&◌}
 use Rattle.std.specs.List.{AllByRecursion}
 use Rattle.std.specs.Ordering.{is_le, is_lt, ordering_then}
@@ -9,7 +9,7 @@ use Rattle.row_types.specs.declared.values.Value.{Value}
 use Rattle.row_types.specs.declared.edges.Edge.{Edge}
 use Rattle.row_types.specs.declared.edges.Edge.TheVariants.{Low, Before, After, High}
 use Rattle.row_types.specs.declared.edges.Span.{Span}
-use Rattle.row_types.specs.Order.{key_cmp, edge_le, is_past_edge, is_before_edge, has}
+use Rattle.row_types.specs.Order.{key_cmp, is_past_edge, is_before_edge, has}
 use Rattle.row_types.proofs.OrderLemmas.{key_at_most, key_below}
 use Rattle.row_types.proofs.SpanLemmas.{past_or_before}
 use Rattle.ordered_table.specs.KeyRows.{AreOrdered, rows_past, rows_before, rows_in}

@@ -1,19 +1,13 @@
 -- What rows have at each key after a change, and which of their keys an edge leads to.
-use Rattle.std.proofs.Common.{◌≡◌, ◌∙◌, ◌≢◌, ℕ, zero, suc, ◌+◌, ◌-◌, ◌<◌, ◌≤◌, Bool, true, false, not, cond, Option, Some, None, List, [], ◌∷◌, ◌++◌, ◌⊎◌, inl, inr, length, take, drop, refl, ap, sym, subst, arith}
-use Rattle.std.specs.Prelude.{filter, slice_get, option_map, IsSome, ◌&&◌}
-use Rattle.std.specs.List.{AllByRecursion}
-use Rattle.std.specs.Ordering.{is_eq, is_le, is_lt, match_ordering, ordering_then, ordering_reverse}
+use Rattle.std.proofs.Common.{◌≡◌, ◌∙◌, ◌≢◌, ℕ, Bool, true, false, not, cond, Option, Some, None, List, [], ◌∷◌, take, refl, ap, sym}
+use Rattle.std.specs.Prelude.{filter}
+use Rattle.std.specs.Ordering.{is_eq, match_ordering}
 use Rattle.std.specs.declared.cmp.Ordering.{Ordering}
 use Rattle.std.specs.declared.cmp.Ordering.TheVariants.{Less, Equal, Greater}
 use Rattle.row_types.specs.declared.values.Value.{Value}
-use Rattle.row_types.specs.declared.edges.Edge.{Edge}
-use Rattle.row_types.specs.declared.edges.Edge.TheVariants.{Low, Before, After, High}
-use Rattle.row_types.specs.declared.edges.Span.{Span}
-use Rattle.row_types.specs.Order.{key_cmp, edge_le, is_past_edge, is_before_edge, has}
-use Rattle.row_types.proofs.OrderLemmas.{keys_exact, key_ties, key_tied, key_turns, key_turns_back}
-use Rattle.ordered_table.specs.KeyRows.{AreOrdered, IsBelowAll, is_at, row_at, put_row, without_key, rows_in, rows_past, rows_before, row_past, least_past, nth_past, greatest_before}
-use Rattle.ordered_table.specs.Neighbours.{HasRowAt, IsLeastPast, IsNonePast, IsGreatestBefore, IsNoneBefore}
-use Rattle.ordered_table.proofs.OrderedLemmas.{below_filtered}
+use Rattle.row_types.specs.Order.{key_cmp}
+use Rattle.row_types.proofs.OrderLemmas.{keys_exact, key_ties, key_tied}
+use Rattle.ordered_table.specs.KeyRows.{is_at, row_at, put_row, without_key}
 
 tied : (o : Ordering) → is_eq o ≡ true → o ≡ Equal
 tied Less e = cc

@@ -1,15 +1,14 @@
 -- The least key past an edge, the greatest before it, and the order in which keys past an edge are counted.
-use Rattle.std.proofs.Common.{◌≡◌, ◌∙◌, ℕ, zero, suc, ◌+◌, ◌-◌, ◌<◌, ◌≤◌, Bool, true, false, not, cond, Option, Some, None, List, [], ◌∷◌, ◌⊎◌, inl, inr, length, take, refl, ap, sym, subst, arith}
-use Rattle.std.specs.Prelude.{filter, slice_get, option_map, is_some, ◌&&◌}
-use Rattle.std.specs.List.{AllByRecursion}
+use Rattle.std.proofs.Common.{◌≡◌, ◌∙◌, ℕ, zero, suc, ◌+◌, ◌-◌, ◌≤◌, Bool, true, false, cond, Option, Some, None, List, [], ◌∷◌, ◌⊎◌, inl, inr, length, take, refl, ap, sym, subst, arith}
+use Rattle.std.specs.Prelude.{slice_get, option_map, is_some, ◌&&◌}
 use Rattle.std.specs.Ordering.{is_eq, is_le, ordering_then}
 use Rattle.std.specs.declared.cmp.Ordering.{Ordering}
 use Rattle.std.specs.declared.cmp.Ordering.TheVariants.{Less, Equal, Greater}
 use Rattle.row_types.specs.declared.values.Value.{Value}
 use Rattle.row_types.specs.declared.edges.Edge.{Edge}
-use Rattle.row_types.specs.declared.edges.Edge.TheVariants.{Low, Before, After, High}
+use Rattle.row_types.specs.declared.edges.Edge.TheVariants.{Before, After}
 use Rattle.row_types.specs.Order.{key_cmp, edge_le, is_past_edge, is_before_edge, has}
-use Rattle.row_types.proofs.OrderLemmas.{key_below, key_at_most, key_ties, key_tied, key_turns}
+use Rattle.row_types.proofs.OrderLemmas.{key_ties, key_tied, key_turns}
 use Rattle.row_types.proofs.SpanLemmas.{edge_le_trans}
 use Rattle.ordered_table.specs.KeyRows.{AreOrdered, IsBelowAll, is_at, row_at, rows_past, rows_before, row_past, least_past, nth_past, greatest_before}
 use Rattle.ordered_table.specs.Neighbours.{HasRowAt, IsLeastPast, IsNonePast, IsGreatestBefore, IsNoneBefore}
@@ -114,9 +113,6 @@ pub none_past : (key_len : ℕ) (edge : Edge) (rows : List (List Value)) → lea
 none_past key_len edge [] none other there = cc
 none_past key_len edge (row ∷ rows) none other there =
     none_past_first key_len edge row other rows (is_past_edge edge (take key_len row)) refl (λ n t. none_past key_len edge rows n other t) none (there_of key_len other row rows there)
-
-last_of : List (List Value) → Option (List Value)
-last_of rows = slice_get rows (length rows - 1)
 
 last_is : (row : List Value) (rows : List (List Value)) → slice_get (row ∷ rows) (length (row ∷ rows) - 1) ≡ slice_get (row ∷ rows) (length rows)
 last_is row rows = let e : suc (length rows) - 1 ≡ length rows = omega arith in ap (slice_get (row ∷ rows)) e

@@ -1,14 +1,14 @@
 -- Rows stay by rising key when one is put in or taken away, and hold at each key what they should.
-use Rattle.std.proofs.Common.{◌≡◌, ◌∙◌, ℕ, zero, suc, ◌+◌, ◌<◌, ◌≤◌, Bool, true, false, not, cond, Option, Some, None, List, [], ◌∷◌, ◌++◌, length, take, drop, refl, ap, sym, subst, arith}
-use Rattle.std.specs.Prelude.{slice_index_or, slice_set, filter}
-use Rattle.std.specs.List.{AllByRecursion, insert, remove}
-use Rattle.std.specs.Ordering.{is_eq, is_le, match_ordering}
+use Rattle.std.proofs.Common.{◌≡◌, ◌∙◌, ℕ, Bool, true, false, cond, None, List, [], ◌∷◌, take, refl, ap, sym}
+use Rattle.std.specs.Prelude.{slice_set, filter}
+use Rattle.std.specs.List.{insert, remove}
+use Rattle.std.specs.Ordering.{is_le, match_ordering}
 use Rattle.std.specs.declared.cmp.Ordering.{Ordering}
 use Rattle.std.specs.declared.cmp.Ordering.TheVariants.{Less, Equal, Greater}
 use Rattle.row_types.specs.declared.values.Value.{Value}
 use Rattle.row_types.specs.Order.{key_cmp}
-use Rattle.row_types.proofs.OrderLemmas.{keys_exact, key_at_most, key_below, key_turns, key_turns_back}
-use Rattle.ordered_table.specs.KeyRows.{HasKey, AreOrdered, IsBelowAll, is_at, row_at, put_row, without_key}
+use Rattle.row_types.proofs.OrderLemmas.{key_at_most, key_turns_back}
+use Rattle.ordered_table.specs.KeyRows.{HasKey, AreOrdered, IsBelowAll, row_at, put_row, without_key}
 use Rattle.ordered_table.specs.Places.{IsTakenAt, IsFreeAt}
 
 below_put_at : (key_len : ℕ) (low row other : List Value) (others : List (List Value)) (o : Ordering)

@@ -1,14 +1,12 @@
 -- What the rows have at a key's place, and what putting a row there or taking it away gives.
-use Rattle.std.proofs.Common.{◌≡◌, ◌∙◌, ℕ, zero, suc, ◌+◌, ◌-◌, ◌<◌, ◌≤◌, Bool, true, false, not, cond, Option, Some, None, List, [], ◌∷◌, ◌++◌, length, take, drop, refl, ap, sym, subst, arith}
-use Rattle.std.specs.Prelude.{slice_index_or, slice_set, filter}
-use Rattle.std.specs.List.{insert, remove}
-use Rattle.std.specs.Ordering.{is_eq, is_le, is_lt, match_ordering}
+use Rattle.std.proofs.Common.{◌≡◌, ◌∙◌, ℕ, zero, suc, ◌<◌, ◌≤◌, true, false, not, cond, Some, None, List, [], ◌∷◌, length, take, refl, ap, arith}
+use Rattle.std.specs.Ordering.{is_eq, is_le, match_ordering}
 use Rattle.std.specs.declared.cmp.Ordering.{Ordering}
 use Rattle.std.specs.declared.cmp.Ordering.TheVariants.{Less, Equal, Greater}
 use Rattle.row_types.specs.declared.values.Value.{Value}
 use Rattle.row_types.specs.Order.{key_cmp}
-use Rattle.row_types.proofs.OrderLemmas.{key_at_most, key_below}
-use Rattle.ordered_table.specs.KeyRows.{AreOrdered, IsBelowAll, is_at, row_at, put_row, without_key}
+use Rattle.row_types.proofs.OrderLemmas.{key_at_most}
+use Rattle.ordered_table.specs.KeyRows.{AreOrdered, IsBelowAll, row_at, put_row, without_key}
 use Rattle.ordered_table.specs.Places.{is_past, is_there, IsCut, IsTakenAt, IsFreeAt}
 use Rattle.ordered_table.proofs.CutLemmas.{cut_rest}
 

@@ -1,5 +1,5 @@
 -- Where a key or an edge has its place among rows by rising key.
-use Rattle.std.specs.Prelude.{ℕ, ◌≡◌, ◌≤◌, ◌<◌, Bool, true, false, cond, List, [], Option, None, Some, length, take, slice_index_or, slice_set}
+use Rattle.std.specs.Prelude.{ℕ, ◌≡◌, ◌≤◌, ◌<◌, Bool, true, false, cond, List, [], None, Some, length, take, slice_index_or, slice_set}
 use Rattle.std.specs.List.{insert, remove, slice_get}
 use Rattle.std.specs.Option.{option_map_or}
 use Rattle.std.specs.Ordering.{is_le, is_lt}

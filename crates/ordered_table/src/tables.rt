@@ -44,7 +44,7 @@ impl Table {
         }
     }
 
-    /// A table of copies of these rows, which rise by key.
+    /// A table of copies of these rows, which rise by key; no rows are spare.
     pub fn from_rows(alloc: Global, key_len: u8, rows: &[Row]) -> R<Table>
         requires least { 1 ≤ key_len }
         requires most { key_len ≤ 2 }
@@ -59,7 +59,7 @@ impl Table {
         })
     }
 
-    /// How many values a key has.
+    /// How many values a key has: one or two.
     pub fn key_len(&self) -> u8
         ensures value { result ≡ self.now.key_len }
         ensures least { 1 ≤ result }
@@ -97,7 +97,7 @@ impl Table {
         row.len() >= self.key_len as usize && has_no_null(key_values(row, self.key_len))
     }
 
-    /// The row at a key.
+    /// The row at a key, if there is one.
     pub fn get(&self, key: &Key) -> Option<&Row>
         ensures { option_copied result ≡ row_at self.now.key_len key.now self.now.rows }
     {
@@ -107,28 +107,28 @@ impl Table {
         }
     }
 
-    /// The row of the least key past the edge.
+    /// The row of the least key past the edge, none where no key is past it.
     pub fn row_past(&self, edge: &Edge) -> Option<&Row>
         ensures { option_copied result ≡ row_past self.now.key_len edge.now self.now.rows }
     {
         self.past(edge).first()
     }
 
-    /// The values of the least key past the edge.
+    /// The values of the least key past the edge, none where no key is past it.
     pub fn next(&self, edge: &Edge) -> Option<&[Value]>
         ensures { option_copied result ≡ least_past self.now.key_len edge.now self.now.rows }
     {
         key_of(self.row_past(edge), self.key_len)
     }
 
-    /// The values of the greatest key before the edge.
+    /// The values of the greatest key before the edge, none where no key is before it.
     pub fn prev(&self, edge: &Edge) -> Option<&[Value]>
         ensures { option_copied result ≡ greatest_before self.now.key_len edge.now self.now.rows }
     {
         key_of(self.before(edge).last(), self.key_len)
     }
 
-    /// The values of the n-th key past the edge, counted from 1.
+    /// The values of the n-th key past the edge, counted from 1; none where fewer keys are past it.
     pub fn nth(&self, edge: &Edge, n: u64) -> Option<&[Value]>
         requires { 1 ≤ n }
         ensures { option_copied result ≡ nth_past self.now.key_len edge.now n self.now.rows }
@@ -171,7 +171,7 @@ impl Table {
     }
 
     /// Puts a row at its key and hands back the row that it replaced. Only a row at an absent key wants
-    /// memory; a refusal hands the row back and leaves the rows as they were.
+    /// memory; a refusal hands the row back and leaves the table's rows as they were.
     pub fn put(&mut self, row: Row) -> Result<Option<Row>, (Row, Memory)>
         requires { HasKey self.old.key_len row }
         ensures replaced { IfOk result (λ replaced. replaced ≡ row_at self.old.key_len (take self.old.key_len row) self.old.rows) }
@@ -198,7 +198,7 @@ impl Table {
         }
     }
 
-    /// Takes the row at a key away and hands it back.
+    /// Takes the row at a key away and hands it back, if there is one.
     pub fn remove(&mut self, key: &Key) -> Option<Row>
         ensures removed { result ≡ row_at self.old.key_len key.now self.old.rows }
         ensures rows { self.new.rows ≡ without_key self.old.key_len key.now self.old.rows }
@@ -211,7 +211,8 @@ impl Table {
         }
     }
 
-    /// Makes spare at least this number of rows; a refusal leaves spare no lower than it was.
+    /// Makes at least this number of rows spare; the table's own stay. A refusal lowers nothing, and comes
+    /// only where fewer were spare.
     pub fn reserve(&mut self, rows: u64) -> R<()>
         ensures ok { OnOk result (rows ≤ self.new.spare) }
         ensures err { OnErr result (self.old.spare < rows) }
@@ -227,8 +228,8 @@ impl Table {
         Ok(())
     }
 
-    /// Puts a row at its key without memory and hands back the row that it replaced. A row at an absent
-    /// key takes one of the spare rows' room.
+    /// Puts a row at its key without memory and hands back the row that it replaced. At an absent key it
+    /// takes the room of one of the spare rows.
     pub fn put_back(&mut self, row: Row) -> Option<Row>
         requires key { HasKey self.old.key_len row }
         requires room { row_at self.old.key_len (take self.old.key_len row) self.old.rows ≡ None → 1 ≤ self.old.spare }

@@ -1,5 +1,4 @@
-use Rattle.std.proofs.Common.{◌≡◌, ◌+◌, ◌≤◌, ap, sym, subst, vec_len, vec_capacity, List, arith}
-use Rattle.row_types.specs.declared.values.Value.{Value}
+use Rattle.std.proofs.Common.{◌≡◌, ap, sym, subst, arith}
 use Rattle.ordered_table.specs.KeyRows.{HasKey, AreOrdered, put_row}
 use Rattle.ordered_table.specs.TableView.{TableView}
 use Rattle.ordered_table.proofs.OrderedLemmas.{put_ordered, put_taken, put_free}

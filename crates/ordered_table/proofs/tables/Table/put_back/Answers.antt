@@ -1,5 +1,4 @@
-use Rattle.std.proofs.Common.{◌≡◌, ◌+◌, ◌≤◌, ap, sym, subst, refl, None, take, vec_len, vec_capacity, List, arith}
-use Rattle.row_types.specs.declared.values.Value.{Value}
+use Rattle.std.proofs.Common.{◌≡◌, ◌≤◌, ap, sym, subst, refl, None, take, arith}
 use Rattle.ordered_table.specs.KeyRows.{HasKey, AreOrdered, row_at, put_row}
 use Rattle.ordered_table.specs.TableView.{TableView}
 use Rattle.ordered_table.proofs.OrderedLemmas.{put_ordered, put_taken, put_free, absent_free}

@@ -1,4 +1,4 @@
-use Rattle.std.proofs.Common.{◌≡◌, ◌+◌, ◌≤◌, ap, subst, vec_len, vec_capacity, not, List, arith}
+use Rattle.std.proofs.Common.{◌≡◌, subst, not, List, arith}
 use Rattle.row_types.specs.declared.values.Value.{Value}
 use Rattle.ordered_table.specs.KeyRows.{AreOrdered, is_at, without_key}
 use Rattle.ordered_table.proofs.OrderedLemmas.{filter_ordered, left_taken}
