@@ -9,11 +9,11 @@ use Rattle.row_types.specs.declared.digests.Digest.{Digest}
 use Rattle.row_types.specs.declared.digests.DigestKind.TheVariants.{Md5}
 use Rattle.row_types.specs.declared.table_schema.Schema.{Schema}
 use Rattle.ptc_statement.specs.declared.statements.Statement.{Statement}
-use Rattle.ptc_statement.specs.declared.statements.Statement.TheVariants.{Insert, Delete, Update, Check as CheckStatement, SetMaster, ClearChecks}
+use Rattle.ptc_statement.specs.declared.statements.Statement.TheVariants.{Insert, Replace, Delete, Update, LockRead, Check as CheckStatement, SetMaster, ClearChecks}
 use Rattle.ptc_statement.specs.declared.scripts.Script.{Script}
 use Rattle.ptc_statement.specs.declared.scripts.ScriptLine.{ScriptLine}
 use Rattle.ptc_statement.specs.declared.scripts.ScriptStep.{ScriptStep}
-use Rattle.ptc_statement.specs.declared.scripts.ScriptStep.TheVariants.{Run}
+use Rattle.ptc_statement.specs.declared.scripts.ScriptStep.TheVariants.{Begin, Commit, Rollback, Run}
 use Rattle.ptc_statement.specs.Fits.{IsClients}
 use Rattle.history.specs.declared.entries.Entry.{Entry}
 use Rattle.checksum_table.specs.declared.check_rows.CheckRow.{CheckRow}
@@ -232,16 +232,20 @@ seat_holds workload false replica w v before is = absurd (cc)
 -- a client's statement leaves the check rows
 client_checks : (schemas : List Schema) (position : ℕ) (statement : Statement) (here : Replayed) → IsClients statement → checks_after schemas position statement here ≡ here.checks
 client_checks schemas position (Insert table row) here client = refl
+client_checks schemas position (Replace table row) here client = refl
 client_checks schemas position (Delete table where_true) here client = refl
 client_checks schemas position (Update table sets where_true) here client = refl
+client_checks schemas position (LockRead table mode span where_true) here client = refl
 client_checks schemas position (CheckStatement table chunk span kind) here client = absurd client
 client_checks schemas position (SetMaster table chunk kind master) here client = absurd client
 client_checks schemas position (ClearChecks table) here client = absurd client
 
 client_master : (statement : Statement) (here : Replayed) → IsClients statement → IsTrueMaster statement here
 client_master (Insert table row) here client = tt
+client_master (Replace table row) here client = tt
 client_master (Delete table where_true) here client = tt
 client_master (Update table sets where_true) here client = tt
+client_master (LockRead table mode span where_true) here client = tt
 client_master (CheckStatement table chunk span kind) here client = absurd client
 client_master (SetMaster table chunk kind master) here client = absurd client
 client_master (ClearChecks table) here client = absurd client
@@ -328,6 +332,19 @@ line_refused_holds workload w session view line statement from_one found at step
       logged_truly = before.logged_truly;
     }
 
+-- the next line of a session fits
+step_fits : (workload : Workload) (w : WorldView) (session : ℕ) (view : SessionView) (line : ScriptLine) (step : ScriptStep)
+    → 1 ≤ session
+    → slice_get w.sessions (session - 1) ≡ Some view
+    → slice_get view.script view.next ≡ Some line
+    → line.step ≡ step
+    → Holds workload w
+    → StepFits workload.schemas.tables step
+step_fits workload w session view line step from_one found at is before =
+    let holds : SessionHolds workload.schemas.tables (logged_by session w.source.history) view =
+    sessions_at workload.schemas.tables w.source.history 1 (session - 1) session w.sessions view (omega arith) found before.sessions in
+    subst (StepFits workload.schemas.tables) is (next_line workload.schemas.tables (logged_by session w.source.history) view line holds at).fits
+
 line_holds : (workload : Workload) (w : WorldView) (session : ℕ) (view : SessionView) (line : ScriptLine) (step : ScriptStep)
     → 1 ≤ session
     → slice_get w.sessions (session - 1) ≡ Some view
@@ -335,6 +352,9 @@ line_holds : (workload : Workload) (w : WorldView) (session : ℕ) (view : Sessi
     → line.step ≡ step
     → Holds workload w
     → Holds workload (line_done session view line step w)
+line_holds workload w session view line Begin from_one found at step before = absurd (step_fits workload w session view line Begin from_one found at step before)
+line_holds workload w session view line Commit from_one found at step before = absurd (step_fits workload w session view line Commit from_one found at step before)
+line_holds workload w session view line Rollback from_one found at step before = absurd (step_fits workload w session view line Rollback from_one found at step before)
 line_holds workload w session view line (Run statement) from_one found at step before =
     line_done_either (Holds workload) session view line statement w
     (line_refused_holds workload w session view line statement from_one found at step before)

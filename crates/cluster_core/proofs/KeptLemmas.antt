@@ -7,7 +7,7 @@ use Rattle.row_types.specs.declared.table_schema.Schema.{Schema}
 use Rattle.ptc_statement.specs.declared.statements.Statement.{Statement}
 use Rattle.ptc_statement.specs.declared.scripts.ScriptLine.{ScriptLine}
 use Rattle.ptc_statement.specs.declared.scripts.ScriptStep.{ScriptStep}
-use Rattle.ptc_statement.specs.declared.scripts.ScriptStep.TheVariants.{Run}
+use Rattle.ptc_statement.specs.declared.scripts.ScriptStep.TheVariants.{Begin, Commit, Rollback, Run}
 use Rattle.ptc_statement.specs.Fits.{StatementFits, FitsSchemas}
 use Rattle.history.specs.declared.entries.Origin.{Origin}
 use Rattle.history.specs.declared.entries.Entry.{Entry}
@@ -48,6 +48,9 @@ pub record KeepsBoth (schemas : List Schema) (old new : SessionView) (source aft
 step_keeps : (schemas : List Schema) (session : ℕ) (view : SessionView) (line : ScriptLine) (step : ScriptStep) (source : NodeView)
     → StepFits schemas step → AllByRecursion (IsOneFitting schemas) source.history
     → KeepsBoth schemas view (step_left session view line step source).0 source (step_left session view line step source).1
+step_keeps schemas session view line Begin source fits log = absurd fits
+step_keeps schemas session view line Commit source fits log = absurd fits
+step_keeps schemas session view line Rollback source fits log = absurd fits
 step_keeps schemas session view line (Run statement) source fits log =
     let P : Bool → Type 0 = λ b. KeepsBoth schemas view
     (cond {A = SessionView × NodeView} b (record view { next = view.next + 1; refused = view.refused ++ line.line ∷ [] }, source) (record view { next = view.next + 1 }, logged source (by_session session statement))).0

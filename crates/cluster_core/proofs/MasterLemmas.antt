@@ -11,7 +11,7 @@ use Rattle.row_types.specs.declared.digests.Digest.{Digest}
 use Rattle.row_types.specs.declared.edges.Span.{Span}
 use Rattle.row_types.specs.declared.table_schema.Schema.{Schema}
 use Rattle.ptc_statement.specs.declared.statements.Statement.{Statement}
-use Rattle.ptc_statement.specs.declared.statements.Statement.TheVariants.{Insert, Delete, Update, Check as CheckStatement, SetMaster, ClearChecks}
+use Rattle.ptc_statement.specs.declared.statements.Statement.TheVariants.{Insert, Replace, Delete, Update, LockRead, Check as CheckStatement, SetMaster, ClearChecks}
 use Rattle.history.specs.declared.entries.Entry.{Entry}
 use Rattle.checksum_table.specs.declared.check_rows.CheckRow.{CheckRow}
 use Rattle.checksum_table.specs.declared.check_rows.CheckEntry.{CheckEntry}
@@ -126,8 +126,10 @@ same_cleared false a b before = before
 same_statement : (schemas : List Schema) (m n : ℕ) (statement : Statement) (a b : Replayed)
     → SameMasters a.checks b.checks → SameMasters (checks_after schemas m statement a) (checks_after schemas n statement b)
 same_statement schemas m n (Insert t row) a b before table chunk = before table chunk
+same_statement schemas m n (Replace t row) a b before table chunk = before table chunk
 same_statement schemas m n (Delete t where_true) a b before table chunk = before table chunk
 same_statement schemas m n (Update t sets where_true) a b before table chunk = before table chunk
+same_statement schemas m n (LockRead t mode span where_true) a b before table chunk = before table chunk
 same_statement schemas m n (CheckStatement t c span kind) a b before table chunk =
     subst₂ (λ x y. told_in x ≡ told_in y)
     (sym (check_at-with_check table chunk t c _ a.checks))

@@ -12,7 +12,7 @@ use Rattle.ptc_statement.specs.declared.statements.Statement.{Statement}
 use Rattle.ptc_statement.specs.declared.statements.Statement.TheVariants.{Check as CheckStatement, SetMaster, ClearChecks}
 use Rattle.ptc_statement.specs.declared.scripts.ScriptLine.{ScriptLine}
 use Rattle.ptc_statement.specs.declared.scripts.ScriptStep.{ScriptStep}
-use Rattle.ptc_statement.specs.declared.scripts.ScriptStep.TheVariants.{Run}
+use Rattle.ptc_statement.specs.declared.scripts.ScriptStep.TheVariants.{Begin, Commit, Rollback, Run}
 use Rattle.history.specs.declared.entries.Entry.{Entry}
 use Rattle.checksum_table.specs.declared.check_rows.CheckRow.{CheckRow}
 use Rattle.checksum_table.specs.Checks.{check_at}
@@ -208,12 +208,16 @@ line_logged_nearer session view statement w found within =
     rw grown (lags_grow (length w.source.history) w.replicas) in
     omega (arith, mul-le-mul_left (length w.replicas + 1) less)
 
-line_refused_nearer : (session : ℕ) (view : SessionView) (line : ScriptLine) (w : WorldView)
+-- a session is behind its next line, and the source is as it was
+abbrev line_passed : ℕ → SessionView → List ℕ → WorldView → WorldView
+line_passed session view refused w = with_session session (record view { next = view.next + 1; refused = refused }, w.source) w
+
+line_passed_nearer : (session : ℕ) (view : SessionView) (refused : List ℕ) (w : WorldView)
     → slice_get w.sessions (session - 1) ≡ Some view
     → view.next < length view.script
-    → turns_left (line_refused session view line w) < turns_left w
-line_refused_nearer session view line w found within =
-    let done : SessionView = record view { next = view.next + 1; refused = view.refused ++ line.line ∷ [] } in
+    → turns_left (line_passed session view refused w) < turns_left w
+line_passed_nearer session view refused w found within =
+    let done : SessionView = record view { next = view.next + 1; refused = refused } in
     let lines : lines_left (slice_set w.sessions (session - 1) done) < lines_left w.sessions = lines_set w.sessions (session - 1) view done found (omega arith) in
     let less : entries_left (length w.source.schemas) w.phase + lines_left (slice_set w.sessions (session - 1) done)
     < entries_left (length w.source.schemas) w.phase + lines_left w.sessions = omega arith in
@@ -263,9 +267,12 @@ line_nearer : (session : ℕ) (view : SessionView) (line : ScriptLine) (step : S
     → slice_get w.sessions (session - 1) ≡ Some view
     → view.next < length view.script
     → turns_left (line_done session view line step w) < turns_left w
+line_nearer session view line Begin w found within = line_passed_nearer session view view.refused w found within
+line_nearer session view line Commit w found within = line_passed_nearer session view view.refused w found within
+line_nearer session view line Rollback w found within = line_passed_nearer session view view.refused w found within
 line_nearer session view line (Run statement) w found within =
     line_done_either (λ (v : WorldView). turns_left v < turns_left w) session view line statement w
-    (λ is. line_refused_nearer session view line w found within) (λ is. line_logged_nearer session view statement w found within)
+    (λ is. line_passed_nearer session view (view.refused ++ line.line ∷ []) w found within) (λ is. line_logged_nearer session view statement w found within)
 
 session_nearer : (session : ℕ) (w v : WorldView) → session_turn session w ≡ Some v → turns_left v < turns_left w
 session_nearer session w v is =

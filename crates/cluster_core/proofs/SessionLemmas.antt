@@ -10,7 +10,7 @@ use Rattle.ptc_statement.specs.declared.statements.Statement.{Statement}
 use Rattle.ptc_statement.specs.declared.scripts.Script.{Script}
 use Rattle.ptc_statement.specs.declared.scripts.ScriptLine.{ScriptLine}
 use Rattle.ptc_statement.specs.declared.scripts.ScriptStep.{ScriptStep}
-use Rattle.ptc_statement.specs.declared.scripts.ScriptStep.TheVariants.{Run}
+use Rattle.ptc_statement.specs.declared.scripts.ScriptStep.TheVariants.{Begin, Commit, Rollback, Run}
 use Rattle.history.specs.declared.entries.Entry.{Entry}
 use Rattle.cluster_core.specs.Node.{NodeView}
 use Rattle.cluster_core.specs.Sessions.{SessionView, unstarted, step_left}
@@ -73,6 +73,9 @@ calls_same new refused (line ∷ lines) below =
     ∙ ap (step_call line.step (is_among line.line refused)) (calls_same new refused lines below.1)
 
 step_call-append : (step : ScriptStep) (refused : Bool) (calls more : List Statement) → step_call step refused (calls ++ more) ≡ step_call step refused calls ++ more
+step_call-append Begin refused calls more = refl
+step_call-append Commit refused calls more = refl
+step_call-append Rollback refused calls more = refl
 step_call-append (Run statement) true calls more = refl
 step_call-append (Run statement) false calls more = refl
 
@@ -87,6 +90,9 @@ step_logged : (step : ScriptStep) (refused : Bool) (statement : Statement) → s
 step_logged step refused statement is kept = ap (λ s. step_call s refused []) is ∙ ap (λ b. cond b [] (statement ∷ [])) kept
 
 step_refused : (step : ScriptStep) (refused : Bool) → refused ≡ true → step_call step refused [] ≡ []
+step_refused Begin refused is = refl
+step_refused Commit refused is = refl
+step_refused Rollback refused is = refl
 step_refused (Run statement) true is = refl
 step_refused (Run statement) false is = absurd (cc)
 

@@ -8,7 +8,7 @@ use Rattle.ptc_statement.specs.declared.statements.Statement.TheVariants.{Check}
 use Rattle.ptc_statement.specs.declared.scripts.Script.{Script}
 use Rattle.ptc_statement.specs.declared.scripts.ScriptLine.{ScriptLine}
 use Rattle.ptc_statement.specs.declared.scripts.ScriptStep.{ScriptStep}
-use Rattle.ptc_statement.specs.declared.scripts.ScriptStep.TheVariants.{Run}
+use Rattle.ptc_statement.specs.declared.scripts.ScriptStep.TheVariants.{Begin, Commit, Rollback, Run}
 use Rattle.ptc_statement.specs.Fits.{IsClients}
 use Rattle.history.specs.declared.entries.Origin.{Origin}
 use Rattle.history.specs.declared.entries.Origin.TheVariants.{Session, Checksum, Applied}
@@ -81,6 +81,9 @@ abbrev pub is_among : ℕ → List ℕ → Bool
 is_among line refused = list_any (λ other. other == line) refused
 
 abbrev pub step_call : ScriptStep → Bool → List Statement → List Statement
+step_call Begin refused calls = calls
+step_call Commit refused calls = calls
+step_call Rollback refused calls = calls
 step_call (Run statement) refused calls = cond refused calls (statement ∷ calls)
 
 -- the statements of a script's lines, without those of the lines that were refused as duplicates

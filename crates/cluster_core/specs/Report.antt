@@ -22,7 +22,8 @@ use Rattle.cluster_core.specs.Node.{NodeView, replayed_of}
 use Rattle.cluster_core.specs.Sessions.{SessionView}
 use Rattle.cluster_core.specs.World.{WorldView}
 use Rattle.cluster_core.specs.declared.report_verdicts.VerdictLine.{VerdictLine}
-use Rattle.cluster_core.specs.Texts.{name_of, table_line, tuple_text, span_text, statement_text}
+use Rattle.cluster_core.specs.Texts.{name_of, table_line, tuple_text, span_text}
+use Rattle.cluster_core.specs.StatementTexts.{statement_text}
 
 unfoldable pub replica_text : ℕ → List ℕ
 replica_text replica = codes "r" ++ decimal replica

@@ -2,11 +2,11 @@
 use Rattle.std.specs.Prelude.{ℕ, ◌+◌, Bool, false, is_some, cond, List, [], ◌∷◌, ◌++◌, Option, option_map}
 use Rattle.std.specs.List.{slice_get}
 use Rattle.ptc_statement.specs.declared.statements.Statement.{Statement}
-use Rattle.ptc_statement.specs.declared.statements.Statement.TheVariants.{Insert, Delete, Update, Check, SetMaster, ClearChecks}
+use Rattle.ptc_statement.specs.declared.statements.Statement.TheVariants.{Insert, Replace, Delete, Update, LockRead, Check, SetMaster, ClearChecks}
 use Rattle.ptc_statement.specs.declared.scripts.Script.{Script}
 use Rattle.ptc_statement.specs.declared.scripts.ScriptLine.{ScriptLine}
 use Rattle.ptc_statement.specs.declared.scripts.ScriptStep.{ScriptStep}
-use Rattle.ptc_statement.specs.declared.scripts.ScriptStep.TheVariants.{Run}
+use Rattle.ptc_statement.specs.declared.scripts.ScriptStep.TheVariants.{Begin, Commit, Rollback, Run}
 use Rattle.history.specs.declared.entries.Origin.TheVariants.{Session}
 use Rattle.history.specs.declared.entries.Entry.{Entry}
 use Rattle.cluster_core.specs.Node.{NodeView, logged, row_on}
@@ -24,8 +24,10 @@ unstarted script = record { script = script.lines; next = 0; refused = [] }
 -- an INSERT whose key is there
 abbrev pub is_duplicate : NodeView → Statement → Bool
 is_duplicate node (Insert table row) = is_some (row_on node table row)
+is_duplicate node (Replace table row) = false
 is_duplicate node (Delete table where_true) = false
 is_duplicate node (Update table sets where_true) = false
+is_duplicate node (LockRead table mode span where_true) = false
 is_duplicate node (Check table chunk span kind) = false
 is_duplicate node (SetMaster table chunk kind master) = false
 is_duplicate node (ClearChecks table) = false
@@ -34,12 +36,19 @@ is_duplicate node (ClearChecks table) = false
 abbrev pub by_session : ℕ → Statement → Entry
 by_session session statement = record { origin = Session session; statements = statement ∷ [] }
 
+-- behind the next line
+abbrev pub advanced : SessionView → SessionView
+advanced view = record view { next = view.next + 1 }
+
 -- a line done: its statement logged, or refused as a duplicate
 abbrev pub step_left : ℕ → SessionView → ScriptLine → ScriptStep → NodeView → SessionView × NodeView
+step_left session view line Begin source = (advanced view, source)
+step_left session view line Commit source = (advanced view, source)
+step_left session view line Rollback source = (advanced view, source)
 step_left session view line (Run statement) source =
     cond (is_duplicate source statement)
     (record view { next = view.next + 1; refused = view.refused ++ line.line ∷ [] }, source)
-    (record view { next = view.next + 1 }, logged source (by_session session statement))
+    (advanced view, logged source (by_session session statement))
 
 -- the next line of a script, done whole; none at the script's end
 abbrev pub line_left : ℕ → SessionView → NodeView → Option (SessionView × NodeView)

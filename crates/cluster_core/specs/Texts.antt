@@ -1,5 +1,5 @@
--- How schemas, values, edges and statements are written.
-use Rattle.std.specs.Prelude.{ℕ, ◌+◌, ◌==◌, nat_lt, cond, List, [], ◌∷◌, ◌++◌, codes, Option, None, Some}
+-- How schemas, values and edges are written.
+use Rattle.std.specs.Prelude.{ℕ, ◌+◌, ◌==◌, nat_lt, cond, List, [], ◌∷◌, ◌++◌, codes}
 use Rattle.std.specs.List.{slice_get}
 use Rattle.std.specs.Option.{option_map_or}
 use Rattle.std.specs.Fmt.{decimal, signed_decimal}
@@ -15,15 +15,6 @@ use Rattle.row_types.specs.declared.table_schema.ColumnKind.{ColumnKind}
 use Rattle.row_types.specs.declared.table_schema.ColumnKind.TheVariants.{Int as IntColumn, BigInt, Text as TextColumn}
 use Rattle.row_types.specs.declared.table_schema.Column.{Column}
 use Rattle.row_types.specs.declared.table_schema.Schema.{Schema}
-use Rattle.ptc_statement.specs.declared.statements.Statement.{Statement}
-use Rattle.ptc_statement.specs.declared.statements.Statement.TheVariants.{Insert, Delete, Update, Check, SetMaster, ClearChecks}
-use Rattle.ptc_statement.specs.declared.expressions.Op.{Op}
-use Rattle.ptc_statement.specs.declared.expressions.Op.TheVariants.{Eq}
-use Rattle.ptc_statement.specs.declared.expressions.Expr.{Expr}
-use Rattle.ptc_statement.specs.declared.expressions.Expr.TheVariants.{Lit, Cell}
-use Rattle.ptc_statement.specs.declared.expressions.Cond.{Cond}
-use Rattle.ptc_statement.specs.declared.expressions.Cond.TheVariants.{Compare}
-use Rattle.ptc_statement.specs.declared.expressions.Assignment.{Assignment}
 use Rattle.row_digest.specs.Digest.{crc_text}
 
 -- the name of the table of this number
@@ -102,53 +93,3 @@ master_text kind master = codes " CNT " ++ decimal master.count ++ codes " CRC '
 
 unfoldable pub clear_word : List ℕ
 clear_word = codes "CLEARCHECKS "
-
--- the name of a column of a table
-unfoldable pub column_name : List Schema → ℕ → ℕ → List ℕ
-column_name schemas table column =
-    option_map_or (λ (schema : Schema). option_map_or (λ (found : Column). found.name) (slice_get schema.columns column) []) (slice_get schemas table) []
-
-unfoldable pub expr_text : List Schema → ℕ → Expr → List ℕ
-expr_text schemas table (Lit value) = value_text value
-expr_text schemas table (Cell column) = column_name schemas table column
-
-unfoldable pub op_text : Op → List ℕ
-op_text Eq = codes " = "
-
-unfoldable pub cond_text : List Schema → ℕ → Cond → List ℕ
-cond_text schemas table (Compare op left right) = expr_text schemas table left ++ op_text op ++ expr_text schemas table right
-
-unfoldable pub where_text : List Schema → ℕ → Option Cond → List ℕ
-where_text schemas table None = []
-where_text schemas table (Some condition) = codes " WHERE " ++ cond_text schemas table condition
-
-unfoldable pub assignment_text : List Schema → ℕ → Assignment → List ℕ
-assignment_text schemas table assignment =
-    column_name schemas table assignment.column ++ codes " = " ++ expr_text schemas table assignment.expr
-
--- assignments, each after a comma
-abbrev pub assignments_on : List Schema → ℕ → List Assignment → List ℕ
-assignments_on schemas table [] = []
-assignments_on schemas table (assignment ∷ assignments) =
-    codes ", " ++ assignment_text schemas table assignment ++ assignments_on schemas table assignments
-
-abbrev pub assignments_text : List Schema → ℕ → List Assignment → List ℕ
-assignments_text schemas table [] = []
-assignments_text schemas table (assignment ∷ assignments) =
-    assignment_text schemas table assignment ++ assignments_on schemas table assignments
-
-unfoldable pub insert_word : List ℕ
-insert_word = codes "INSERT INTO "
-
-unfoldable pub delete_word : List ℕ
-delete_word = codes "DELETE FROM "
-
-unfoldable pub statement_text : List Schema → Statement → List ℕ
-statement_text schemas (Insert table row) = insert_word ++ name_of schemas table ++ codes " VALUES " ++ tuple_text row
-statement_text schemas (Delete table where_true) = delete_word ++ name_of schemas table ++ where_text schemas table where_true
-statement_text schemas (Update table sets where_true) =
-    codes "UPDATE " ++ name_of schemas table ++ codes " SET " ++ assignments_text schemas table sets ++ where_text schemas table where_true
-statement_text schemas (Check table chunk span kind) = codes "CHECKSUM " ++ chunk_text schemas table chunk ++ summed_text span kind
-statement_text schemas (SetMaster table chunk kind master) =
-    codes "SETMASTER " ++ chunk_text schemas table chunk ++ master_text kind master
-statement_text schemas (ClearChecks table) = clear_word ++ name_of schemas table

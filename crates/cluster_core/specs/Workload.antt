@@ -1,11 +1,12 @@
 -- The rules that a workload keeps.
-use Rattle.std.specs.Prelude.{◌≡◌, ◌<◌, ◌≤◌, ℕ, List, [], ◌∷◌, length}
+use Rattle.std.specs.Prelude.{◌≡◌, ◌<◌, ◌≤◌, ℕ, IsTrue, List, [], ◌∷◌, length}
 use Rattle.std.specs.List.{AllByRecursion}
 use Rattle.row_types.specs.declared.table_schema.Schema.{Schema}
 use Rattle.ptc_statement.specs.declared.scripts.Script.{Script}
 use Rattle.ptc_statement.specs.declared.scripts.ScriptLine.{ScriptLine}
 use Rattle.ptc_statement.specs.declared.scripts.ScriptStep.{ScriptStep}
-use Rattle.ptc_statement.specs.declared.scripts.ScriptStep.TheVariants.{Run}
+use Rattle.ptc_statement.specs.declared.scripts.ScriptStep.TheVariants.{Begin, Commit, Rollback, Run}
+use Rattle.ptc_statement.specs.Effect.{is_logged}
 use Rattle.ptc_statement.specs.Fits.{IsClients, FitsSchemas}
 use Rattle.row_types.specs.Fit.{IsSchema, AreTables}
 use Rattle.cluster_core.specs.declared.actors.Actor.{Actor}
@@ -14,9 +15,13 @@ use Rattle.cluster_core.specs.declared.schedule.Item.{Item}
 use Rattle.cluster_core.specs.declared.schedule.Item.TheVariants.{Turn}
 use Rattle.cluster_core.specs.declared.workload.Workload.{Workload}
 
--- a client's statement that fits
+-- a client's statement that is logged and fits; until transactions run row by row each is one of its
+-- own, so a script has none of their words
 abbrev pub StepFits : List Schema → ScriptStep → Type 0
-StepFits schemas (Run statement) = IsClients statement × FitsSchemas schemas statement
+StepFits schemas Begin = ⊥
+StepFits schemas Commit = ⊥
+StepFits schemas Rollback = ⊥
+StepFits schemas (Run statement) = IsClients statement × FitsSchemas schemas statement × IsTrue (is_logged statement)
 
 -- the line numbers rise
 abbrev pub LinesRise : List ScriptLine → Type 0

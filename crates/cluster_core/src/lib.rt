@@ -2,6 +2,7 @@
 #![tactic(auto)]
 
 pub mod actors;
+mod condition_texts;
 pub mod laws;
 pub mod nodes;
 mod report;

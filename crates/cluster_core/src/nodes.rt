@@ -32,8 +32,13 @@ pub struct Node {
 
 impl Model for Node {
     ghost use Rattle.cluster_core.specs.Node.{NodeView};
+    ghost use Rattle.std.specs.Coded.{codes};
+    ghost use Rattle.ptc_statement.specs.contracts.expressions.Expr as expr;
+    ghost use Rattle.ptc_statement.specs.contracts.conditions.Cond as condition;
 
     ghost Value = { NodeView };
+
+    ghost coded = { Prim.hlevel (codes, expr.the_row.coded, condition.the_row.coded) };
 
     ghost use Rattle.cluster_core.specs.NodeParts.{node_view, FollowsHistory};
 
@@ -173,7 +178,11 @@ fn checks_of(
     ensures { IfOk result (λ after. unwrap_or after checks.now ≡ checks_after schemas.now.tables position statement.now (record { tables = live.now; checks = checks.now })) }
 {
     match statement {
-        Statement::Insert { .. } | Statement::Delete { .. } | Statement::Update { .. } => Ok(None),
+        Statement::Insert { .. }
+        | Statement::Replace { .. }
+        | Statement::Delete { .. }
+        | Statement::Update { .. }
+        | Statement::LockRead { .. } => Ok(None),
         Statement::Check {
             table,
             chunk,

@@ -5,7 +5,7 @@ ghost use Rattle.cluster_core.specs.Good.{StepsFit};
 ghost use Rattle.cluster_core.specs.Node.{NodeView};
 ghost use Rattle.cluster_core.specs.Sessions.{line_left};
 ghost use Rattle.cluster_core.specs.Turns.{Takes};
-ghost use Rattle.cluster_core.specs.Sessions.{SessionView, unstarted};
+ghost use Rattle.cluster_core.specs.Sessions.{SessionView, unstarted, advanced};
 ghost use Rattle.cluster_core.specs.Sessions.{is_duplicate as is_duplicate_on};
 ghost use Rattle.ptc_statement.specs.Fits.{FitsSchemas};
 
@@ -27,8 +27,13 @@ pub struct Session {
 
 impl Model for Session {
     ghost use Rattle.cluster_core.specs.Sessions.{SessionView};
+    ghost use Rattle.std.specs.Coded.{codes};
+    ghost use Rattle.ptc_statement.specs.contracts.expressions.Expr as expr;
+    ghost use Rattle.ptc_statement.specs.contracts.conditions.Cond as condition;
 
     ghost Value = { SessionView };
+
+    ghost coded = { Prim.hlevel (codes, expr.the_row.coded, condition.the_row.coded) };
 
     ghost use Rattle.cluster_core.specs.SessionParts.{session_view, IsWithinScript};
 
@@ -66,7 +71,7 @@ impl Session {
     /// Goes on behind a line that was done.
     fn advance(&mut self)
         requires { self.old.next < length self.old.script }
-        ensures { self.new ≡ record self.old { next = self.old.next + 1 } }
+        ensures { self.new ≡ advanced self.old }
     {
         let within = self.next < self.script.lines.len();
         prove!(within);
@@ -97,7 +102,10 @@ impl Session {
             return Ok(false);
         };
         let number = line.line;
-        let ScriptStep::Run(statement) = &line.step;
+        let ScriptStep::Run(statement) = &line.step else {
+            self.advance();
+            return Ok(true);
+        };
         if is_duplicate(source, statement) {
             self.refuse(number)?;
             return Ok(true);
@@ -116,6 +124,12 @@ fn is_duplicate(source: &Node, statement: &Statement) -> bool
 {
     match statement {
         Statement::Insert { table, row } => source.has_row(*table, row),
-        _ => false,
+        Statement::Replace { .. }
+        | Statement::Delete { .. }
+        | Statement::Update { .. }
+        | Statement::LockRead { .. }
+        | Statement::Check { .. }
+        | Statement::SetMaster { .. }
+        | Statement::ClearChecks { .. } => false,
     }
 }

@@ -1,82 +1,17 @@
 //! How statements are written. After a refusal of memory a text is incomplete.
 ghost use Rattle.std.specs.Prelude.{◌≡◌, ◌++◌, OnOk};
-ghost use Rattle.cluster_core.specs.Texts.{chunk_text, summed_text, master_text, clear_word, expr_text, op_text, cond_text, where_text, assignment_text, assignments_on, assignments_text, insert_word, delete_word, statement_text};
-ghost use Rattle.cluster_core.specs.Texts.{column_name as column_name_in};
+ghost use Rattle.cluster_core.specs.Texts.{chunk_text, summed_text, master_text, clear_word};
+ghost use Rattle.cluster_core.specs.StatementTexts.{where_text, assignment_text, assignments_on, assignments_text, insert_word, replace_word, select_word, lock_text, delete_word, statement_text};
 
-use crate::texts::{
-    push_bytes, push_digest_kind, push_name, push_number, push_span, push_tuple, push_value,
-};
-use ptc_statement::{Assignment, Cond, Expr, Op, Statement};
+use crate::condition_texts::{push_column_name, push_cond, push_expr};
+use crate::texts::{push_bytes, push_digest_kind, push_name, push_number, push_span, push_tuple};
+use ptc_statement::{Assignment, Cond, Statement};
 use row_digest::crc_text;
-use row_types::{Digest, DigestKind, R, SchemaList, Span};
+use row_types::{Digest, DigestKind, LockMode, R, SchemaList, Span};
 use std::alloc::Global;
 
-/// The name of a column of a table; empty where there is no such column.
-#[tactic(auto, unfolding(crate::specs::Texts::column_name))]
-fn column_name(schemas: &SchemaList, table: usize, column: usize) -> &[u8]
-    ensures { result.now ≡ column_name_in schemas.now table column }
-{
-    match schemas.as_slice().get(table) {
-        None => &[],
-        Some(schema) => match schema.columns.as_slice().get(column) {
-            None => &[],
-            Some(found) => found.name.as_slice(),
-        },
-    }
-}
-
-fn push_column_name(out: &mut Vec<u8>, schemas: &SchemaList, table: u32, column: u32) -> R<()>
-    ensures { OnOk result (out.new.items ≡ out.old.items ++ column_name_in schemas.now table column) }
-{
-    push_bytes(out, column_name(schemas, table as usize, column as usize))
-}
-
-#[tactic(auto, unfolding(crate::specs::Texts::expr_text))]
-fn push_expr(
-    alloc: Global,
-    out: &mut Vec<u8>,
-    schemas: &SchemaList,
-    table: u32,
-    expr: &Expr,
-) -> R<()>
-    ensures { OnOk result (out.new.items ≡ out.old.items ++ expr_text schemas.now table expr.now) }
-{
-    match expr {
-        Expr::Lit(value) => push_value(alloc, out, value),
-        Expr::Cell(column) => push_column_name(out, schemas, table, *column),
-    }
-}
-
-#[tactic(auto, unfolding(crate::specs::Texts::op_text))]
-fn push_op(out: &mut Vec<u8>, op: Op) -> R<()>
-    ensures { OnOk result (out.new.items ≡ out.old.items ++ op_text op) }
-{
-    match op {
-        Op::Eq => push_bytes(out, b" = "),
-    }
-}
-
-#[tactic(auto, unfolding(crate::specs::Texts::cond_text))]
-fn push_cond(
-    alloc: Global,
-    out: &mut Vec<u8>,
-    schemas: &SchemaList,
-    table: u32,
-    cond: &Cond,
-) -> R<()>
-    ensures { OnOk result (out.new.items ≡ out.old.items ++ cond_text schemas.now table cond.now) }
-{
-    match cond {
-        Cond::Compare { op, left, right } => {
-            push_expr(alloc, out, schemas, table, left)?;
-            push_op(out, *op)?;
-            push_expr(alloc, out, schemas, table, right)
-        }
-    }
-}
-
 /// Nothing where there is no condition.
-#[tactic(auto, unfolding(crate::specs::Texts::where_text))]
+#[tactic(auto, unfolding(crate::specs::StatementTexts::where_text))]
 fn push_where(
     alloc: Global,
     out: &mut Vec<u8>,
@@ -95,7 +30,7 @@ fn push_where(
     }
 }
 
-#[tactic(auto, unfolding(crate::specs::Texts::assignment_text))]
+#[tactic(auto, unfolding(crate::specs::StatementTexts::assignment_text))]
 fn push_assignment(
     alloc: Global,
     out: &mut Vec<u8>,
@@ -145,14 +80,38 @@ fn push_assignments(
     }
 }
 
-#[tactic(auto, unfolding(crate::specs::Texts::insert_word))]
+#[tactic(auto, unfolding(crate::specs::StatementTexts::insert_word))]
 fn push_insert_word(out: &mut Vec<u8>) -> R<()>
     ensures { OnOk result (out.new.items ≡ out.old.items ++ insert_word) }
 {
     push_bytes(out, b"INSERT INTO ")
 }
 
-#[tactic(auto, unfolding(crate::specs::Texts::delete_word))]
+#[tactic(auto, unfolding(crate::specs::StatementTexts::replace_word))]
+fn push_replace_word(out: &mut Vec<u8>) -> R<()>
+    ensures { OnOk result (out.new.items ≡ out.old.items ++ replace_word) }
+{
+    push_bytes(out, b"REPLACE INTO ")
+}
+
+#[tactic(auto, unfolding(crate::specs::StatementTexts::select_word))]
+fn push_select_word(out: &mut Vec<u8>) -> R<()>
+    ensures { OnOk result (out.new.items ≡ out.old.items ++ select_word) }
+{
+    push_bytes(out, b"SELECT * FROM ")
+}
+
+#[tactic(auto, unfolding(crate::specs::StatementTexts::lock_text))]
+fn push_lock(out: &mut Vec<u8>, mode: LockMode) -> R<()>
+    ensures { OnOk result (out.new.items ≡ out.old.items ++ lock_text mode) }
+{
+    match mode {
+        LockMode::Shared => push_bytes(out, b" FOR SHARE"),
+        LockMode::Exclusive => push_bytes(out, b" FOR UPDATE"),
+    }
+}
+
+#[tactic(auto, unfolding(crate::specs::StatementTexts::delete_word))]
 fn push_delete_word(out: &mut Vec<u8>) -> R<()>
     ensures { OnOk result (out.new.items ≡ out.old.items ++ delete_word) }
 {
@@ -203,7 +162,7 @@ fn push_clear_word(out: &mut Vec<u8>) -> R<()>
     push_bytes(out, b"CLEARCHECKS ")
 }
 
-#[tactic(auto, unfolding(crate::specs::Texts::statement_text))]
+#[tactic(auto, unfolding(crate::specs::StatementTexts::statement_text))]
 pub(crate) fn push_statement(
     alloc: Global,
     out: &mut Vec<u8>,
@@ -219,6 +178,12 @@ pub(crate) fn push_statement(
             push_bytes(out, b" VALUES ")?;
             push_tuple(alloc, out, row.as_slice())
         }
+        Statement::Replace { table, row } => {
+            push_replace_word(out)?;
+            push_name(out, schemas, *table)?;
+            push_bytes(out, b" VALUES ")?;
+            push_tuple(alloc, out, row.as_slice())
+        }
         Statement::Delete { table, cond } => {
             push_delete_word(out)?;
             push_name(out, schemas, *table)?;
@@ -230,6 +195,17 @@ pub(crate) fn push_statement(
             push_bytes(out, b" SET ")?;
             push_assignments(alloc, out, schemas, *table, sets.as_slice())?;
             push_where(alloc, out, schemas, *table, cond)
+        }
+        Statement::LockRead {
+            table,
+            mode,
+            cond,
+            ..
+        } => {
+            push_select_word(out)?;
+            push_name(out, schemas, *table)?;
+            push_where(alloc, out, schemas, *table, cond)?;
+            push_lock(out, *mode)
         }
         Statement::Check {
             table,

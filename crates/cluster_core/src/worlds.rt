@@ -68,8 +68,13 @@ impl RunReport {
 
 impl Model for World {
     ghost use Rattle.cluster_core.specs.World.{WorldView};
+    ghost use Rattle.std.specs.Coded.{codes};
+    ghost use Rattle.ptc_statement.specs.contracts.expressions.Expr as expr;
+    ghost use Rattle.ptc_statement.specs.contracts.conditions.Cond as condition;
 
     ghost Value = { WorldView };
+
+    ghost coded = { Prim.hlevel (codes, expr.the_row.coded, condition.the_row.coded) };
 
     ghost use Rattle.cluster_core.specs.WorldParts.{world_view, IsKept};
 

@@ -8,7 +8,7 @@ use Rattle.row_types.specs.declared.digests.DigestKind.{DigestKind}
 use Rattle.row_types.specs.declared.edges.Span.{Span}
 use Rattle.row_types.specs.declared.table_schema.Schema.{Schema}
 use Rattle.ptc_statement.specs.declared.statements.Statement.{Statement}
-use Rattle.ptc_statement.specs.declared.statements.Statement.TheVariants.{Insert, Delete, Update, Check, SetMaster, ClearChecks}
+use Rattle.ptc_statement.specs.declared.statements.Statement.TheVariants.{Insert, Replace, Delete, Update, LockRead, Check, SetMaster, ClearChecks}
 use Rattle.history.specs.declared.entries.Entry.{Entry}
 use Rattle.checksum_table.specs.declared.check_rows.CheckRow.{CheckRow}
 use Rattle.checksum_table.specs.declared.check_rows.Verdict.TheVariants.{Same, Differ, Pending}
@@ -89,8 +89,10 @@ agree_statement : (schemas : List Schema) (place : ℕ → Span → DigestKind �
     → ChunksAgree place source_rows replica_rows (check_at table chunk source.checks) (check_at table chunk replica.checks)
     → ChunksAgree place source_rows replica_rows (check_at table chunk (checks_after schemas source_position statement source)) (check_at table chunk (checks_after schemas position statement replica))
 agree_statement schemas place source_rows replica_rows table chunk source_position position (Insert t row) source replica source_is replica_is is_placed master before = before
+agree_statement schemas place source_rows replica_rows table chunk source_position position (Replace t row) source replica source_is replica_is is_placed master before = before
 agree_statement schemas place source_rows replica_rows table chunk source_position position (Delete t where_true) source replica source_is replica_is is_placed master before = before
 agree_statement schemas place source_rows replica_rows table chunk source_position position (Update t sets where_true) source replica source_is replica_is is_placed master before = before
+agree_statement schemas place source_rows replica_rows table chunk source_position position (LockRead t mode span where_true) source replica source_is replica_is is_placed master before = before
 agree_statement schemas place source_rows replica_rows table chunk source_position position (Check t c span kind) source replica source_is replica_is is_placed master before =
     let statement : Statement = Check t c span kind in
     let source_new : CheckRow = record { span = span; kind = kind; this = digest_of kind (chunk_rows schemas source.tables t span); master = None; position = source_position } in

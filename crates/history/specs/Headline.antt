@@ -6,7 +6,7 @@ use Rattle.row_types.specs.declared.values.Value.{Value}
 use Rattle.row_types.specs.declared.digests.DigestKind.{DigestKind}
 use Rattle.row_types.specs.declared.table_schema.Schema.{Schema}
 use Rattle.ptc_statement.specs.declared.statements.Statement.{Statement}
-use Rattle.ptc_statement.specs.declared.statements.Statement.TheVariants.{Insert, Delete, Update, Check, SetMaster, ClearChecks}
+use Rattle.ptc_statement.specs.declared.statements.Statement.TheVariants.{Insert, Replace, Delete, Update, LockRead, Check, SetMaster, ClearChecks}
 use Rattle.history.specs.declared.entries.Entry.{Entry}
 use Rattle.checksum_table.specs.declared.check_rows.CheckRow.{CheckRow}
 use Rattle.checksum_table.specs.declared.check_rows.Verdict.TheVariants.{Same, Differ, Pending}
@@ -17,8 +17,10 @@ use Rattle.history.specs.Replay.{Replayed, chunk_rows, after_entry, fold, source
 -- a SETMASTER publishes the checksum that the check row of its chunk has there
 abbrev pub IsTrueMaster : Statement → Replayed → Type 0
 IsTrueMaster (Insert table row) here = Unit {0}
+IsTrueMaster (Replace table row) here = Unit {0}
 IsTrueMaster (Delete table where_true) here = Unit {0}
 IsTrueMaster (Update table sets where_true) here = Unit {0}
+IsTrueMaster (LockRead table mode span where_true) here = Unit {0}
 IsTrueMaster (Check table chunk span kind) here = Unit {0}
 IsTrueMaster (SetMaster table chunk kind master) here =
     (row : CheckRow) × (check_at table chunk here.checks ≡ Some row) × (row.this ≡ master) × (row.kind ≡ kind)

@@ -6,7 +6,7 @@ use Rattle.row_types.specs.declared.values.Value.{Value}
 use Rattle.row_types.specs.declared.edges.Span.{Span}
 use Rattle.row_types.specs.declared.table_schema.Schema.{Schema}
 use Rattle.ptc_statement.specs.declared.statements.Statement.{Statement}
-use Rattle.ptc_statement.specs.declared.statements.Statement.TheVariants.{Insert, Delete, Update, Check, SetMaster, ClearChecks}
+use Rattle.ptc_statement.specs.declared.statements.Statement.TheVariants.{Insert, Replace, Delete, Update, LockRead, Check, SetMaster, ClearChecks}
 use Rattle.ptc_statement.specs.Effect.{table_of, rows_after}
 use Rattle.history.specs.declared.entries.Origin.{Origin}
 use Rattle.history.specs.declared.entries.Origin.TheVariants.{Session, Checksum, Applied}
@@ -38,8 +38,10 @@ tables_after schemas statement tables =
 -- the row stands; CLEARCHECKS forgets the table's rows
 abbrev pub checks_after : List Schema → ℕ → Statement → Replayed → List CheckEntry
 checks_after schemas position (Insert table row) here = here.checks
+checks_after schemas position (Replace table row) here = here.checks
 checks_after schemas position (Delete table where_true) here = here.checks
 checks_after schemas position (Update table sets where_true) here = here.checks
+checks_after schemas position (LockRead table mode span where_true) here = here.checks
 checks_after schemas position (Check table chunk span kind) here =
     with_check table chunk
     (record { span = span; kind = kind; this = digest_of kind (chunk_rows schemas here.tables table span); master = None; position = position })

@@ -61,7 +61,13 @@ impl Model for Entries {
     ghost use Rattle.std.specs.Prelude.{List, ℕ};
     ghost use Rattle.history.specs.declared.entries.Entry.{Entry};
 
+    ghost use Rattle.std.specs.Coded.{codes};
+    ghost use Rattle.ptc_statement.specs.contracts.expressions.Expr as expr;
+    ghost use Rattle.ptc_statement.specs.contracts.conditions.Cond as condition;
+
     ghost Value = { List Entry };
+
+    ghost coded = { Prim.hlevel (codes, expr.the_row.coded, condition.the_row.coded) };
 
     ghost view = { λ list. list.items.items };
 }

@@ -2,7 +2,7 @@
 use Rattle.std.proofs.Common.{◌≡◌, ◌<◌, ◌≤◌, ◌+◌, ℕ, ℤ, Option, None, Some, true, false, arith, List, [], ◌∷◌, map, length, refl, sym, ap, subst, ◌∙◌, Ordering, Less, Equal, Greater, int_cmp, FitsSigned, w64, lit≤}
 use Rattle.std.specs.Ordering.{match_ordering, ordering_then, ordering_reverse}
 use Rattle.std.specs.List.{AllByRecursion, slice_get}
-use Rattle.std.specs.Prelude.{codes, is_some}
+use Rattle.std.specs.Prelude.{codes, is_some, IsTrue}
 use Rattle.std.specs.BTreeMap.{insert_entry}
 use Rattle.std.specs.Cmp.{int_cmp_total}
 use Rattle.row_types.specs.declared.values.Value.{Value}
@@ -13,11 +13,15 @@ use Rattle.cluster_core.specs.Workload.{IsWorkload, ScriptFits, StepFits, LinesR
 use Rattle.row_types.specs.declared.table_schema.Schema.{Schema}
 use Rattle.row_types.specs.declared.table_schema.ColumnKind.TheVariants.{BigInt}
 use Rattle.ptc_statement.specs.declared.scripts.ScriptLine.{ScriptLine}
+use Rattle.ptc_statement.specs.declared.expressions.Expr.TheVariants.{Lit}
+use Rattle.ptc_statement.specs.declared.expressions.Op.TheVariants.{Eq}
+use Rattle.ptc_statement.specs.Effect.{is_logged}
 use Rattle.ptc_statement.specs.Effect.{table_of as table_number}
-use Rattle.ptc_statement.specs.Fits.{IsClients, FitsSchemas, StatementFits}
+use Rattle.ptc_statement.specs.Fits.{IsClients, FitsSchemas, AssignmentFits, WhereFits, StatementFits}
+use Rattle.ptc_statement.proofs.FitLemmas.{comparison_fits, literal_height, literal_is_number}
 use Rattle.ptc_run.specs.declared.script_lines.ScriptText.{ScriptText}
 use Rattle.ptc_run.specs.declared.script_lines.ScriptText.TheVariants.{Insert, Update, Delete}
-use Rattle.ptc_run.specs.ScriptLines.{NumbersFitScript, AllowedScript, statement_of, numbered, sessions_of}
+use Rattle.ptc_run.specs.ScriptLines.{NumbersFitScript, AllowedScript, has_key, statement_of, numbered, sessions_of}
 use Rattle.ptc_run.specs.declared.schedule_lines.ScheduleWord.{ScheduleWord}
 use Rattle.ptc_run.specs.declared.schedule_lines.ScheduleWord.TheVariants.{Session, Tool, Worker}
 use Rattle.ptc_run.specs.ScheduleLines.{AllowedWord, AllowedWords, AllowedSchedule, item_of, items_of, schedule_of}
@@ -112,16 +116,33 @@ lines_rise : (texts : List ScriptText) (number : ℕ) → LinesRise (numbered nu
 lines_rise [] number = tt
 lines_rise (text ∷ texts) number = (numbers_later texts number (number + 1) (omega arith), lines_rise texts (number + 1))
 
+has_key_fits : (key : ℤ) → WhereFits first_schema (has_key key)
+unfolding first_schema
+has_key_fits key = comparison_fits first_schema Eq 0 (Int key) refl refl
+
 statement_fits : (text : ScriptText) → NumbersFitScript text → StatementFits first_schema (statement_of text)
 unfolding first_schema
 statement_fits (Insert key value) f = (f.0, (f.1, tt))
-statement_fits (Update key value) f = (record { behind_key = lit≤ tt; column = record { name = codes "v"; kind = BigInt; nullable = true }; found = refl; fits = tt }, tt)
-statement_fits (Delete key) f = tt
+statement_fits (Update key value) f =
+    let assignment : AssignmentFits first_schema (record { column = 1; expr = Lit (Int value) }) = record {
+      behind_key = lit≤ tt;
+      column = record { name = codes "v"; kind = BigInt; nullable = true };
+      found = refl;
+      kind = literal_is_number first_schema (Int value);
+      height = omega (arith, literal_height (Int value));
+    } in
+    ((assignment, tt), has_key_fits key)
+statement_fits (Delete key) f = has_key_fits key
 
 is_clients : (text : ScriptText) → IsClients (statement_of text)
 is_clients (Insert key value) = tt
 is_clients (Update key value) = tt
 is_clients (Delete key) = tt
+
+is_written : (text : ScriptText) → IsTrue (is_logged (statement_of text))
+is_written (Insert key value) = refl
+is_written (Update key value) = refl
+is_written (Delete key) = refl
 
 on_first : (text : ScriptText) → table_number (statement_of text) ≡ 0
 on_first (Insert key value) = refl
@@ -135,7 +156,7 @@ fits_first text f = λ schema e.
 
 steps_fit : (texts : List ScriptText) (number : ℕ) → AllByRecursion NumbersFitScript texts → AllByRecursion (λ (line : ScriptLine). StepFits (first_schema ∷ []) line.step) (numbered number texts)
 steps_fit [] number f = tt
-steps_fit (text ∷ texts) number f = ((is_clients text, fits_first text f.0), steps_fit texts (number + 1) f.1)
+steps_fit (text ∷ texts) number f = ((is_clients text, fits_first text f.0, is_written text), steps_fit texts (number + 1) f.1)
 
 few_sessions : (script : Option (List ScriptText)) (number : ℕ) → length (sessions_of number script) ≤ 64
 few_sessions None number = lit≤ tt

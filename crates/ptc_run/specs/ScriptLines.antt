@@ -6,8 +6,8 @@ use Rattle.std.specs.Int.{w64}
 use Rattle.row_types.specs.declared.values.Value.TheVariants.{Int}
 use Rattle.ptc_statement.specs.declared.expressions.Op.TheVariants.{Eq}
 use Rattle.ptc_statement.specs.declared.expressions.Expr.TheVariants.{Lit, Cell}
-use Rattle.ptc_statement.specs.declared.expressions.Cond.{Cond}
-use Rattle.ptc_statement.specs.declared.expressions.Cond.TheVariants.{Compare}
+use Rattle.ptc_statement.specs.declared.conditions.Cond.{Cond}
+use Rattle.ptc_statement.specs.declared.conditions.Cond.TheVariants.{Compare}
 use Rattle.ptc_statement.specs.declared.statements.Statement.{Statement}
 use Rattle.ptc_statement.specs.declared.statements.Statement.TheVariants.{Insert as InsertRow, Update as UpdateRows, Delete as DeleteRows}
 use Rattle.ptc_statement.specs.declared.scripts.ScriptStep.TheVariants.{Run}

@@ -15,7 +15,8 @@ use Rattle.row_types.specs.Fit.{key_of, IsBelowAll}
 use Rattle.row_types.proofs.OrderLemmas.{key_at_most, key_below}
 use Rattle.row_types.proofs.SpanLemmas.{past_or_before}
 use Rattle.ptc_statement.specs.declared.statements.Statement.{Statement}
-use Rattle.ptc_statement.specs.Effect.{effect, effect_within, changed, with_front, with_new_row, row_at, reach_of}
+use Rattle.ptc_statement.specs.Effect.{effect, effect_within, changed, with_front, with_new_row, row_at}
+use Rattle.ptc_statement.specs.Reach.{reach_of}
 use Rattle.ptc_statement.specs.Planned.{IsRising, key_at, is_past, IsCut, IsStretch, is_there, left_within, replaced}
 
 is_less : (o : Ordering) → is_lt o ≡ true → o ≡ Less
@@ -200,7 +201,7 @@ one_left schema statement row rest left next is =
     ap (λ (rs : List (List Value)). rs ++ left_within schema statement rest) is
     ∙ append_front left (effect_within schema statement (Some row)) (left_within schema statement rest)
 
-effect_outside : (schema : Schema) (statement : Statement) (key : List Value) (old : Option (List Value)) → has (reach_of schema statement) key ≡ false → effect schema statement key old ≡ old
+pub effect_outside : (schema : Schema) (statement : Statement) (key : List Value) (old : Option (List Value)) → has (reach_of schema statement) key ≡ false → effect schema statement key old ≡ old
 effect_outside schema statement key old e = ap (λ (b : Bool). cond b (effect_within schema statement old) old) e
 
 effect_inside : (schema : Schema) (statement : Statement) (key : List Value) (old : Option (List Value)) → has (reach_of schema statement) key ≡ true → effect schema statement key old ≡ effect_within schema statement old
@@ -259,7 +260,7 @@ revised schema statement (row ∷ rows) (suc from) (suc to) stretch =
       behind = λ k h v. stretch.behind (suc k) (omega arith) (omega arith);
     }))
 
-is_greater : (o : Ordering) → is_le o ≡ false → o ≡ Greater
+pub is_greater : (o : Ordering) → is_le o ≡ false → o ≡ Greater
 is_greater Less e = cc
 is_greater Equal e = cc
 is_greater Greater e = refl

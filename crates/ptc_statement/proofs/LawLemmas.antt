@@ -7,18 +7,15 @@ use Rattle.std.specs.declared.cmp.Ordering.TheVariants.{Less, Equal, Greater}
 use Rattle.row_types.specs.declared.values.Value.{Value}
 use Rattle.row_types.specs.declared.table_schema.Schema.{Schema}
 use Rattle.row_types.specs.Order.{key_cmp, has}
-use Rattle.row_types.specs.Fit.{key_of, IsBelowAll, IsTable}
+use Rattle.row_types.specs.Fit.{key_of, with_row, IsBelowAll, IsTable}
 use Rattle.row_types.proofs.OrderLemmas.{keys_total, keys_exact, key_ties, key_below}
 use Rattle.ptc_statement.specs.declared.statements.Statement.{Statement}
-use Rattle.ptc_statement.specs.declared.statements.Statement.TheVariants.{Insert, Delete, Update, Check, SetMaster, ClearChecks}
-use Rattle.ptc_statement.specs.Effect.{just_key, reach_of, effect, effect_within, changed, with_front, with_new_row, rows_after, row_at}
+use Rattle.ptc_statement.specs.declared.statements.Statement.TheVariants.{Insert, Replace, Delete, Update, LockRead, Check, SetMaster, ClearChecks}
+use Rattle.ptc_statement.specs.Reach.{just_key, reach_of}
+use Rattle.ptc_statement.specs.Effect.{effect, effect_within, changed, with_front, with_new_row, rows_after, row_at}
 use Rattle.ptc_statement.specs.Fits.{StatementFits}
 use Rattle.ptc_statement.proofs.TableLemmas.{LeftKeeps, effect_keeps, changed_above}
-
-is_equal : (o : Ordering) → is_eq o ≡ true → o ≡ Equal
-is_equal Less e = cc
-is_equal Equal e = refl
-is_equal Greater e = cc
+use Rattle.ptc_statement.proofs.ReplaceLemmas.{is_equal, just_itself, replace_other, replace_same}
 
 either_way : (b : Bool) (o : Option (List Value)) → cond b o o ≡ o
 either_way true o = refl
@@ -51,12 +48,12 @@ changed_first : (schema : Schema) (statement : Statement) (key row : List Value)
 changed_first schema statement key row rows true same of table more =
     let is : key ≡ key_of schema row = keys_exact key (key_of schema row) (is_equal (key_cmp key (key_of schema row)) same) in
     front_same schema key row (effect schema statement (key_of schema row) (Some row)) (changed schema statement rows)
-    (effect_keeps schema statement (key_of schema row) row table.0 of) same
+    (effect_keeps schema statement row table.0 of) same
     (none_behind schema key row (changed schema statement rows) is (changed_above schema statement row rows of table.2 table.1))
     ∙ ap (λ (k : List Value). effect schema statement k (Some row)) (sym is)
 changed_first schema statement key row rows false other of table more =
     front_other schema key row (effect schema statement (key_of schema row) (Some row)) (changed schema statement rows)
-    (effect_keeps schema statement (key_of schema row) row table.0 of) other
+    (effect_keeps schema statement row table.0 of) other
     ∙ more
 
 changed_at : (schema : Schema) (statement : Statement) (key : List Value) (rows : List (List Value)) → effect schema statement key None ≡ None
@@ -119,15 +116,6 @@ is_new : (schema : Schema) (table : ℕ) (row : List Value) (old : Option (List 
 is_new schema table row None = refl
 is_new schema table row (Some old) = refl
 
--- only a key itself is between its two sides
-both_ways : (o p : Ordering) → p ≡ ordering_reverse o → is_le p && is_le o ≡ is_eq o
-both_ways Less p e = rw e refl
-both_ways Equal p e = rw e refl
-both_ways Greater p e = rw e refl
-
-just_itself : (key other : List Value) → has (just_key key) other ≡ is_eq (key_cmp other key)
-just_itself key other = both_ways (key_cmp other key) (key_cmp key other) (keys_total.antisymm key other)
-
 insert_at : (schema : Schema) (table : ℕ) (key row : List Value) (rows : List (List Value)) (b : Bool) → is_eq (key_cmp key (key_of schema row)) ≡ b → IsTable schema rows
     → row_at schema key (with_new_row schema row rows) ≡ cond b (effect_within schema (Insert table row) (row_at schema key rows)) (row_at schema key rows)
 insert_at schema table key row rows true same is =
@@ -138,16 +126,28 @@ insert_at schema table key row rows true same is =
     ∙ ap (λ (k : List Value). effect_within schema (Insert table row) (row_at schema k rows)) (sym here)
 insert_at schema table key row rows false apart is = put_other schema key row rows apart
 
+replace_at : (schema : Schema) (key row : List Value) (rows : List (List Value)) (b : Bool) → is_eq (key_cmp key (key_of schema row)) ≡ b
+    → row_at schema key (with_row schema row rows) ≡ cond b (Some row) (row_at schema key rows)
+replace_at schema key row rows true same =
+    let here : key ≡ key_of schema row = keys_exact key (key_of schema row) (is_equal (key_cmp key (key_of schema row)) same) in
+    ap (λ (k : List Value). row_at schema k (with_row schema row rows)) here ∙ replace_same schema row rows
+replace_at schema key row rows false apart = replace_other schema key row rows apart
+
 -- at each key the table has what the statement makes of the row there
 pub acts_at : (schema : Schema) (statement : Statement) (rows : List (List Value)) (key : List Value) → StatementFits schema statement → IsTable schema rows
     → row_at schema key (rows_after schema statement rows) ≡ effect schema statement key (row_at schema key rows)
 acts_at schema (Insert table row) rows key of is =
     insert_at schema table key row rows (is_eq (key_cmp key (key_of schema row))) refl is
     ∙ ap (λ (b : Bool). cond b (effect_within schema (Insert table row) (row_at schema key rows)) (row_at schema key rows)) (sym (just_itself (key_of schema row) key))
+acts_at schema (Replace table row) rows key of is =
+    replace_at schema key row rows (is_eq (key_cmp key (key_of schema row))) refl
+    ∙ ap (λ (b : Bool). cond b (Some row) (row_at schema key rows)) (sym (just_itself (key_of schema row) key))
 acts_at schema (Delete table where_true) rows key of is =
     changed_at schema (Delete table where_true) key rows (either_way (has (reach_of schema (Delete table where_true)) key) None) of is
 acts_at schema (Update table sets where_true) rows key of is =
     changed_at schema (Update table sets where_true) key rows (either_way (has (reach_of schema (Update table sets where_true)) key) None) of is
+acts_at schema (LockRead table mode span where_true) rows key of is =
+    sym (either_way (has (reach_of schema (LockRead table mode span where_true)) key) (row_at schema key rows))
 acts_at schema (Check table chunk span kind) rows key of is = sym (either_way (has span key) (row_at schema key rows))
 acts_at schema (SetMaster table chunk kind master) rows key of is =
     sym (either_way (has (reach_of schema (SetMaster table chunk kind master)) key) (row_at schema key rows))

@@ -1,5 +1,8 @@
 pub mod ChangeLemmas
-pub mod EffectLemmas
+pub mod FitLemmas
+pub mod KindLemmas
 pub mod LawLemmas
+pub mod ReachLemmas
+pub mod ReplaceLemmas
 pub mod TableLemmas
 pub mod TestLemmas

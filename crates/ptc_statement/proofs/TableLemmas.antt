@@ -17,20 +17,22 @@ use Rattle.row_types.specs.Fit.{key_of, NumberFits, TextFits, ValueFits, ValuesF
 use Rattle.row_types.specs.Faults.{clipped}
 use Rattle.row_types.proofs.OrderLemmas.{key_below, key_turns_back}
 use Rattle.row_types.proofs.FaultLemmas.{clipped_is_nearest}
-use Rattle.ptc_statement.specs.declared.expressions.Expr.{Expr}
-use Rattle.ptc_statement.specs.declared.expressions.Expr.TheVariants.{Lit, Cell}
-use Rattle.ptc_statement.specs.declared.expressions.Assignment.{Assignment}
+use Rattle.ptc_statement.specs.declared.assignments.Assignment.{Assignment}
 use Rattle.ptc_statement.specs.declared.statements.Statement.{Statement}
-use Rattle.ptc_statement.specs.declared.statements.Statement.TheVariants.{Insert, Delete, Update, Check, SetMaster, ClearChecks}
-use Rattle.ptc_statement.specs.Effect.{value_of, empty_of, cut, stored, assigned, after_sets, is_taken, reach_of, effect, effect_within, changed, with_front, with_new_row, rows_after}
-use Rattle.ptc_statement.specs.Fits.{IsOfKind, AreOfOneKind, ExprFits, AssignmentFits, StatementFits}
+use Rattle.ptc_statement.specs.declared.statements.Statement.TheVariants.{Insert, Replace, Delete, Update, LockRead, Check, SetMaster, ClearChecks}
+use Rattle.ptc_statement.specs.Meaning.{value_of, is_taken}
+use Rattle.ptc_statement.specs.Reach.{just_key, reach_of}
+use Rattle.ptc_statement.specs.Effect.{empty_of, cut, stored, assigned, after_sets, effect, effect_within, changed, with_front, with_new_row, rows_after}
+use Rattle.ptc_statement.specs.Fits.{AssignmentFits, StatementFits}
 use Rattle.ptc_statement.specs.Planned.{IsRising}
+use Rattle.ptc_statement.proofs.KindLemmas.{IsOfKind, value_of_kind}
+use Rattle.ptc_statement.proofs.ReplaceLemmas.{itself_alone, replace_table}
 
 -- a number that is clipped fits
 clipped_fits : (kind : ColumnKind) (n : ℤ) → IsOfKind kind (Int n) → NumberFits kind (clipped kind n)
 clipped_fits IntColumn n of = (clipped_is_nearest IntColumn n tt).fits
 clipped_fits BigInt n of = (clipped_is_nearest BigInt n tt).fits
-clipped_fits (TextColumn max) n of = absurd of
+clipped_fits (TextColumn max) n of = cc
 
 take_bound : (count : ℕ) (text : List ℕ) → length (take count text) ≤ count
 take_bound zero text = omega arith
@@ -38,8 +40,8 @@ take_bound (suc count) [] = omega arith
 take_bound (suc count) (byte ∷ text) = let shorter = take_bound count text in omega arith
 
 cut_fits : (kind : ColumnKind) (text : List ℕ) → IsOfKind kind (Text text) → TextFits kind (cut kind text)
-cut_fits IntColumn text of = absurd of
-cut_fits BigInt text of = absurd of
+cut_fits IntColumn text of = cc
+cut_fits BigInt text of = cc
 cut_fits (TextColumn max) text of = take_bound max text
 
 empty_fits : (column : Column) (kind : ColumnKind) → column.kind ≡ kind → ValueFits column (empty_of kind)
@@ -56,47 +58,6 @@ stored_fits : (column : Column) (value : Value) → IsOfKind column.kind value �
 stored_fits column Null of = null_fits column column.nullable refl
 stored_fits column (Int n) of = clipped_fits column.kind n of
 stored_fits column (Text text) of = cut_fits column.kind text of
-
-null_of_kind : (kind : ColumnKind) → IsOfKind kind Null
-null_of_kind IntColumn = tt
-null_of_kind BigInt = tt
-null_of_kind (TextColumn max) = tt
-
-number_of_kind : (kind other : ColumnKind) (n : ℤ) → AreOfOneKind kind other → NumberFits other n → IsOfKind kind (Int n)
-number_of_kind IntColumn other n same fits = tt
-number_of_kind BigInt other n same fits = tt
-number_of_kind (TextColumn max) IntColumn n same fits = absurd same
-number_of_kind (TextColumn max) BigInt n same fits = absurd same
-number_of_kind (TextColumn max) (TextColumn most) n same fits = absurd fits
-
-text_of_kind : (kind other : ColumnKind) (text : List ℕ) → AreOfOneKind kind other → TextFits other text → IsOfKind kind (Text text)
-text_of_kind (TextColumn max) other text same fits = tt
-text_of_kind IntColumn IntColumn text same fits = absurd fits
-text_of_kind IntColumn BigInt text same fits = absurd fits
-text_of_kind IntColumn (TextColumn most) text same fits = absurd same
-text_of_kind BigInt IntColumn text same fits = absurd fits
-text_of_kind BigInt BigInt text same fits = absurd fits
-text_of_kind BigInt (TextColumn most) text same fits = absurd same
-
-of_one_kind : (kind : ColumnKind) (other : Column) (value : Value) → AreOfOneKind kind other.kind → ValueFits other value → IsOfKind kind value
-of_one_kind kind other Null same fits = null_of_kind kind
-of_one_kind kind other (Int n) same fits = number_of_kind kind other.kind n same fits
-of_one_kind kind other (Text text) same fits = text_of_kind kind other.kind text same fits
-
--- a column's value in a row that fits
-value_in : (columns : List Column) (row : List Value) (place : ℕ) (column : Column) → ValuesFit columns row → slice_get columns place ≡ Some column
-    → ValueFits column (slice_index_or row place Null)
-value_in [] row place column fits found = absurd (cc)
-value_in (first ∷ columns) [] place column fits found = absurd fits
-value_in (first ∷ columns) (value ∷ row) zero column fits found =
-    let same : first ≡ column = cc in
-    subst (λ (c : Column). ValueFits c value) same fits.0
-value_in (first ∷ columns) (value ∷ row) (suc place) column fits found = value_in columns row place column fits.1 found
-
-value_of_kind : (schema : Schema) (kind : ColumnKind) (row : List Value) (expr : Expr) → RowFits schema row → ExprFits schema kind expr → IsOfKind kind (value_of row expr)
-value_of_kind schema kind row (Lit value) fits of = of
-value_of_kind schema kind row (Cell place) fits of =
-    of_one_kind kind of.0 (slice_index_or row place Null) of.2 (value_in schema.columns row place of.0 fits of.1)
 
 set_fits : (columns : List Column) (row : List Value) (place : ℕ) (column : Column) (value : Value) → ValuesFit columns row → slice_get columns place ≡ Some column
     → ValueFits column value → ValuesFit columns (slice_set row place value)
@@ -130,7 +91,7 @@ assigned_keeps schema assignment row fits of =
     let value : Value = stored column (value_of row assignment.expr) in
     subst (Keeps schema row) (sym (assigned_is schema assignment row column of.found)) (record {
       fits = set_fits schema.columns row assignment.column column value fits of.found
-          (stored_fits column (value_of row assignment.expr) (value_of_kind schema column.kind row assignment.expr fits of.fits));
+          (stored_fits column (value_of row assignment.expr) (value_of_kind schema column.kind row assignment.expr fits of.kind));
       key = take_set schema.key_len row assignment.column value of.behind_key;
     })
 
@@ -157,22 +118,35 @@ update_keeps : (schema : Schema) (taken : Bool) (row new : List Value) → RowFi
 update_keeps schema true row new fits keeps = keeps
 update_keeps schema false row new fits keeps = itself schema row fits
 
-within_keeps : (schema : Schema) (statement : Statement) (row : List Value) → RowFits schema row → StatementFits schema statement → LeftKeeps schema row (effect_within schema statement (Some row))
-within_keeps schema (Insert table new) row fits of = itself schema row fits
-within_keeps schema (Delete table where_true) row fits of = delete_keeps schema (is_taken where_true row) row fits
-within_keeps schema (Update table sets where_true) row fits of =
-    update_keeps schema (is_taken where_true row) row (after_sets schema sets row) fits (after_sets_keeps schema sets row fits of)
-within_keeps schema (Check table chunk span kind) row fits of = itself schema row fits
-within_keeps schema (SetMaster table chunk kind master) row fits of = itself schema row fits
-within_keeps schema (ClearChecks table) row fits of = itself schema row fits
+replace_keeps : (schema : Schema) (row new : List Value) → RowFits schema new → has (just_key (key_of schema new)) (key_of schema row) ≡ true → Keeps schema row new
+replace_keeps schema row new fits reached = record {
+  fits = fits;
+  key = sym (itself_alone (key_of schema new) (key_of schema row) reached);
+}
 
-choice_keeps : (schema : Schema) (row : List Value) (reached : Bool) (left : Option (List Value)) → RowFits schema row → LeftKeeps schema row left → LeftKeeps schema row (cond reached left (Some row))
-choice_keeps schema row true left fits keeps = keeps
+within_keeps : (schema : Schema) (statement : Statement) (row : List Value) → RowFits schema row → StatementFits schema statement
+    → has (reach_of schema statement) (key_of schema row) ≡ true → LeftKeeps schema row (effect_within schema statement (Some row))
+within_keeps schema (Insert table new) row fits of reached = itself schema row fits
+within_keeps schema (Replace table new) row fits of reached = replace_keeps schema row new of reached
+within_keeps schema (Delete table where_true) row fits of reached = delete_keeps schema (is_taken schema where_true row) row fits
+within_keeps schema (Update table sets where_true) row fits of reached =
+    update_keeps schema (is_taken schema where_true row) row (after_sets schema sets row) fits (after_sets_keeps schema sets row fits of.0)
+within_keeps schema (LockRead table mode span where_true) row fits of reached = itself schema row fits
+within_keeps schema (Check table chunk span kind) row fits of reached = itself schema row fits
+within_keeps schema (SetMaster table chunk kind master) row fits of reached = itself schema row fits
+within_keeps schema (ClearChecks table) row fits of reached = itself schema row fits
+
+choice_keeps : (schema : Schema) (row : List Value) (reached : Bool) (left : Option (List Value)) → RowFits schema row → (reached ≡ true → LeftKeeps schema row left)
+    → LeftKeeps schema row (cond reached left (Some row))
+choice_keeps schema row true left fits keeps = keeps refl
 choice_keeps schema row false left fits keeps = itself schema row fits
 
-pub effect_keeps : (schema : Schema) (statement : Statement) (key row : List Value) → RowFits schema row → StatementFits schema statement → LeftKeeps schema row (effect schema statement key (Some row))
-effect_keeps schema statement key row fits of =
-    choice_keeps schema row (has (reach_of schema statement) key) (effect_within schema statement (Some row)) fits (within_keeps schema statement row fits of)
+-- what a statement makes of a row at its own key has that key
+pub effect_keeps : (schema : Schema) (statement : Statement) (row : List Value) → RowFits schema row → StatementFits schema statement
+    → LeftKeeps schema row (effect schema statement (key_of schema row) (Some row))
+effect_keeps schema statement row fits of =
+    choice_keeps schema row (has (reach_of schema statement) (key_of schema row)) (effect_within schema statement (Some row)) fits
+    (within_keeps schema statement row fits of)
 
 -- what is left of greater rows is greater
 front_above : (schema : Schema) (least old : List Value) (left : Option (List Value)) (rows : List (List Value)) → LeftKeeps schema old left
@@ -186,7 +160,7 @@ pub changed_above : (schema : Schema) (statement : Statement) (least : List Valu
 changed_above schema statement least [] of table below = tt
 changed_above schema statement least (row ∷ rows) of table below =
     front_above schema least row (effect schema statement (key_of schema row) (Some row)) (changed schema statement rows)
-    (effect_keeps schema statement (key_of schema row) row table.0 of) below.0
+    (effect_keeps schema statement row table.0 of) below.0
     (changed_above schema statement least rows of table.2 below.1)
 
 same_above : (schema : Schema) (old new : List Value) (rows : List (List Value)) → key_of schema new ≡ key_of schema old → IsBelowAll schema old rows → IsBelowAll schema new rows
@@ -203,7 +177,7 @@ changed_table : (schema : Schema) (statement : Statement) (rows : List (List Val
 changed_table schema statement [] of table = tt
 changed_table schema statement (row ∷ rows) of table =
     front_table schema row (effect schema statement (key_of schema row) (Some row)) (changed schema statement rows)
-    (effect_keeps schema statement (key_of schema row) row table.0 of)
+    (effect_keeps schema statement row table.0 of)
     (changed_above schema statement row rows of table.2 table.1)
     (changed_table schema statement rows of table.2)
 
@@ -242,8 +216,10 @@ put_table schema row (other ∷ others) fits table =
 -- a statement that fits leaves a table
 pub rows_after_table : (schema : Schema) (statement : Statement) (rows : List (List Value)) → StatementFits schema statement → IsTable schema rows → IsTable schema (rows_after schema statement rows)
 rows_after_table schema (Insert table row) rows of is = put_table schema row rows of is
+rows_after_table schema (Replace table row) rows of is = replace_table schema row rows of is
 rows_after_table schema (Delete table where_true) rows of is = changed_table schema (Delete table where_true) rows of is
 rows_after_table schema (Update table sets where_true) rows of is = changed_table schema (Update table sets where_true) rows of is
+rows_after_table schema (LockRead table mode span where_true) rows of is = is
 rows_after_table schema (Check table chunk span kind) rows of is = is
 rows_after_table schema (SetMaster table chunk kind master) rows of is = is
 rows_after_table schema (ClearChecks table) rows of is = is

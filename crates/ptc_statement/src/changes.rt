@@ -1,10 +1,12 @@
 ghost use Rattle.std.specs.Prelude.{◌≡◌, ◌≤◌, ◌<◌, ◌+◌, ◌-◌, List, [], ◌∷◌, ◌++◌, Some, length, take, drop, is_some, IfOk, OnOk, OnErr, vec_len, vec_capacity};
 ghost use Rattle.row_types.specs.Order.{is_past_edge};
-ghost use Rattle.row_types.specs.Fit.{key_of};
-ghost use Rattle.ptc_statement.specs.Effect.{rows_after, row_at, with_new_row, with_front, changed, effect_within, reach_of};
+ghost use Rattle.row_types.specs.Fit.{key_of, with_row};
+ghost use Rattle.ptc_statement.specs.Effect.{rows_after, row_at, with_new_row, with_front, changed, effect_within};
+ghost use Rattle.ptc_statement.specs.Reach.{reach_of};
 ghost use Rattle.ptc_statement.specs.Planned.{IsRising, IsCut, IsStretch, is_past, is_there, left_within, replaced};
 
-use crate::effects::{reach, row_left};
+use crate::effects::row_left;
+use crate::reaches::reach;
 use crate::statements::Statement;
 use row_types::keys::compare_values;
 use row_types::{Edge, R, Row, Rows, Schema, Span, Value};
@@ -28,6 +30,7 @@ pub fn planned(alloc: Global, statement: &Statement, schema: &Schema, rows: &[Ro
 {
     match statement {
         Statement::Insert { row, .. } => insertion(alloc, schema, row, rows),
+        Statement::Replace { row, .. } => replacement(alloc, schema, row, rows),
         Statement::Delete { .. } | Statement::Update { .. } => {
             revision(alloc, statement, schema, rows)
         }
@@ -57,6 +60,31 @@ fn insertion(alloc: Global, schema: &Schema, row: &Row, rows: &[Row]) -> R<Chang
         });
     }
     new.push(row.copy(alloc)?)?;
+    Ok(Change {
+        from: place,
+        to: place,
+        rows: new,
+    })
+}
+
+/// The change that puts a row at its place, instead of one that has its key.
+fn replacement(alloc: Global, schema: &Schema, row: &Row, rows: &[Row]) -> R<Change>
+    requires { IsRising schema.now rows.now }
+    ensures ordered { IfOk result (λ change. change.from ≤ change.to) }
+    ensures within { IfOk result (λ change. change.to ≤ length rows.now) }
+    ensures rows { IfOk result (λ change. with_row schema.now row.now rows.now ≡ replaced change.from change.to change.rows rows.now) }
+{
+    let key = schema.key_values(row);
+    let place = first_past(schema, rows, key, false);
+    let mut new = Rows::new(alloc);
+    new.push(row.copy(alloc)?)?;
+    if is_at(schema, rows, place, key) {
+        return Ok(Change {
+            from: place,
+            to: place + 1,
+            rows: new,
+        });
+    }
     Ok(Change {
         from: place,
         to: place,

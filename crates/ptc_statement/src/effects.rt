@@ -1,33 +1,14 @@
-ghost use Rattle.std.specs.Prelude.{◌≡◌, ◌≤◌, ◌<◌, ◌+◌, ◌-◌, List, [], ◌∷◌, ◌++◌, Some, None, Option, length, take, slice_set, unwrap_or, is_some, IsTrue, IfOk, OnOk, OnErr};
+ghost use Rattle.std.specs.Prelude.{◌≡◌, ◌≤◌, ◌<◌, ◌+◌, ◌-◌, List, [], ◌∷◌, ◌++◌, Some, None, Option, length, take, slice_set, IfOk, OnOk, OnErr};
 ghost use Rattle.std.specs.Option.{option_copied};
-ghost use Rattle.row_types.specs.declared.values.Value.{Value as ColumnValue};
-ghost use Rattle.row_types.specs.declared.values.Value.TheVariants.{Null as NullValue};
-ghost use Rattle.row_types.specs.Fit.{key_of};
 ghost use Rattle.row_types.specs.Faults.{clipped};
-ghost use Rattle.ptc_statement.specs.declared.expressions.Op.TheVariants.{Eq as Equals};
-ghost use Rattle.ptc_statement.specs.Effect.{value_of, truth_of, compared, is_true, is_taken, empty_of, cut, stored, assigned, after_sets, reach_of, keys_where, keys_equal, effect, effect_within};
+ghost use Rattle.ptc_statement.specs.Effect.{empty_of, cut, stored, assigned, after_sets, effect, effect_within};
 
-use crate::expressions::{Assignment, Cond, Expr, Op, Sets};
+use crate::assignments::{Assignment, Sets};
+use crate::evaluation::takes;
+use crate::reaches::reach;
 use crate::statements::Statement;
-use row_types::{Bytes, Column, ColumnKind, Edge, Key, R, Row, Schema, Span, Value, clip};
+use row_types::{Bytes, Column, ColumnKind, Key, R, Row, Schema, Value, clip};
 use std::alloc::Global;
-
-/// The keys that a statement walks.
-pub fn reach(alloc: Global, statement: &Statement, schema: &Schema) -> R<Span>
-    ensures { IfOk result (λ span. span ≡ reach_of schema.now statement.now) }
-{
-    match statement {
-        Statement::Insert { row, .. } => Ok(just_key(alloc, schema.key_values(row))?),
-        Statement::Delete { cond, .. } | Statement::Update { cond, .. } => {
-            keys_taken(alloc, schema, cond)
-        }
-        Statement::Check { span, .. } => span.copy(alloc),
-        Statement::SetMaster { .. } | Statement::ClearChecks { .. } => Ok(Span {
-            lo: Edge::Low,
-            hi: Edge::Low,
-        }),
-    }
-}
 
 /// The row, or none, at a key after a statement; outside the statement's reach the old one.
 pub fn act(
@@ -61,7 +42,9 @@ fn row_made(alloc: Global, statement: &Statement) -> R<Option<Row>>
     ensures { IfOk result (λ row. (schema : Schema) → row ≡ effect_within schema statement.now None) }
 {
     match statement {
-        Statement::Insert { row, .. } => Ok(Some(row.copy(alloc)?)),
+        Statement::Insert { row, .. } | Statement::Replace { row, .. } => {
+            Ok(Some(row.copy(alloc)?))
+        }
         _ => Ok(None),
     }
 }
@@ -71,127 +54,20 @@ pub fn row_left(alloc: Global, statement: &Statement, schema: &Schema, row: &Row
     ensures { IfOk result (λ left. left ≡ effect_within schema.now statement.now (Some row.now)) }
 {
     match statement {
+        Statement::Replace { row: new, .. } => Ok(Some(new.copy(alloc)?)),
         Statement::Delete { cond, .. } => {
-            if takes(cond, row) {
+            if takes(alloc, schema, cond, row)? {
                 return Ok(None);
             }
             Ok(Some(row.copy(alloc)?))
         }
         Statement::Update { sets, cond, .. } => {
-            if takes(cond, row) {
+            if takes(alloc, schema, cond, row)? {
                 return Ok(Some(row_set(alloc, schema, sets, row)?));
             }
             Ok(Some(row.copy(alloc)?))
         }
         _ => Ok(Some(row.copy(alloc)?)),
-    }
-}
-
-/// The span of one key.
-fn just_key(alloc: Global, values: &[Value]) -> R<Span>
-    ensures { IfOk result (λ span. span ≡ record { lo = Edge.Before values.now; hi = Edge.After values.now }) }
-{
-    Ok(Span {
-        lo: Edge::Before(Key::from_values(alloc, values)?),
-        hi: Edge::After(Key::from_values(alloc, values)?),
-    })
-}
-
-/// The keys that a condition leaves, or all.
-fn keys_taken(alloc: Global, schema: &Schema, cond: &Option<Cond>) -> R<Span>
-    ensures { IfOk result (λ span. span ≡ keys_where schema.now cond.now) }
-{
-    match cond {
-        None => Ok(Span::whole()),
-        Some(
-            Cond::Compare {
-                op: Op::Eq,
-                left,
-                right,
-            },
-        ) => match (left, right) {
-            (Expr::Lit(value), Expr::Cell(column)) | (Expr::Cell(column), Expr::Lit(value)) => {
-                keys_of_value(alloc, schema, *column, value)
-            }
-            _ => Ok(Span::whole()),
-        },
-    }
-}
-
-/// The keys where a column has a value: one, where the column is the whole key.
-fn keys_of_value(alloc: Global, schema: &Schema, column: u32, value: &Value) -> R<Span>
-    ensures { IfOk result (λ span. span ≡ keys_equal schema.now column value.now) }
-{
-    let decides = column == 0 && schema.key_len == 1;
-    match value {
-        Value::Null => Ok(Span::whole()),
-        _ => {
-            if decides {
-                return one_value(alloc, value);
-            }
-            Ok(Span::whole())
-        }
-    }
-}
-
-/// The span of the key of one value.
-fn one_value(alloc: Global, value: &Value) -> R<Span>
-    ensures { IfOk result (λ span. span ≡ record { lo = Edge.Before (value.now ∷ []); hi = Edge.After (value.now ∷ []) }) }
-{
-    let mut key = Key::new(alloc);
-    key.push(value.copy(alloc)?)?;
-    just_key(alloc, key.as_slice())
-}
-
-/// The value of an expression over a row, none where it is NULL by lack of a column.
-fn value_at<'a>(expr: &'a Expr, row: &'a Row) -> Option<&'a Value>
-    ensures { unwrap_or (option_copied result) NullValue ≡ value_of row.now expr.now }
-{
-    match expr {
-        Expr::Lit(value) => Some(value),
-        Expr::Cell(column) => row.as_slice().get(*column as usize),
-    }
-}
-
-fn are_equal(left: &Value, right: &Value) -> bool
-    ensures { result ≡ is_true (compared Equals left.now right.now) }
-{
-    match (left, right) {
-        (Value::Int(_), Value::Int(_)) => left.compare(right).is_eq(),
-        (Value::Text(_), Value::Text(_)) => left.compare(right).is_eq(),
-        _ => false,
-    }
-}
-
-/// Whether a condition is true over a row.
-#[tactic(auto, using(crate::proofs::EffectLemmas::null_is_unknown))]
-fn is_met(cond: &Cond, row: &Row) -> bool
-    ensures { result ≡ is_true (truth_of row.now cond.now) }
-{
-    match cond {
-        Cond::Compare {
-            op: Op::Eq,
-            left,
-            right,
-        } => {
-            let Some(left) = value_at(left, row) else {
-                return false;
-            };
-            let Some(right) = value_at(right, row) else {
-                return false;
-            };
-            are_equal(left, right)
-        }
-    }
-}
-
-/// Whether a statement with this condition, or none, takes the row.
-fn takes(cond: &Option<Cond>, row: &Row) -> bool
-    ensures { result ≡ is_taken cond.now row.now }
-{
-    match cond {
-        None => true,
-        Some(cond) => is_met(cond, row),
     }
 }
 
@@ -217,10 +93,8 @@ fn assign(alloc: Global, schema: &Schema, assignment: &Assignment, row: &mut Row
     match schema.columns.as_slice().get(place) {
         None => Ok(()),
         Some(column) => {
-            let value = match value_at(&assignment.expr, row) {
-                None => kept_null(alloc, column),
-                Some(value) => kept(alloc, column, value)?,
-            };
+            let value = assignment.expr.value(alloc, row)?;
+            let value = kept(alloc, column, value)?;
             set_value(row, place, value);
             Ok(())
         }
@@ -236,9 +110,21 @@ fn set_value(row: &mut Row, place: usize, value: Value)
     }
 }
 
+/// What a column keeps of a value that is assigned to it.
+/// Source: MySQL Reference Manual, "Server SQL Modes" (without strict mode) and "UPDATE Statement".
+fn kept(alloc: Global, column: &Column, value: Value) -> R<Value>
+    ensures { IfOk result (λ kept. kept ≡ stored column.now value) }
+{
+    match value {
+        Value::Null => Ok(kept_null(alloc, column)),
+        Value::Int(number) => Ok(Value::Int(clip_number(column.kind, number))),
+        Value::Text(text) => Ok(Value::Text(cut_text(alloc, column.kind, text)?)),
+    }
+}
+
 /// What a column keeps of NULL.
 fn kept_null(alloc: Global, column: &Column) -> Value
-    ensures { result ≡ stored column.now NullValue }
+    ensures { result ≡ stored column.now Value.Null }
 {
     if column.nullable {
         return Value::Null;
@@ -246,17 +132,6 @@ fn kept_null(alloc: Global, column: &Column) -> Value
     match column.kind {
         ColumnKind::Int | ColumnKind::BigInt => Value::Int(0),
         ColumnKind::Text { .. } => Value::Text(Bytes::new(alloc)),
-    }
-}
-
-/// What a column keeps of a value that is assigned to it.
-fn kept(alloc: Global, column: &Column, value: &Value) -> R<Value>
-    ensures { IfOk result (λ kept. kept ≡ stored column.now value.now) }
-{
-    match value {
-        Value::Null => Ok(kept_null(alloc, column)),
-        Value::Int(number) => Ok(Value::Int(clip_number(column.kind, *number))),
-        Value::Text(text) => Ok(Value::Text(cut_text(alloc, column.kind, text)?)),
     }
 }
 
@@ -270,15 +145,15 @@ fn clip_number(kind: ColumnKind, number: i64) -> i64
     }
 }
 
-/// A text, cut to its column's length.
-fn cut_text(alloc: Global, kind: ColumnKind, text: &Bytes) -> R<Bytes>
-    ensures { IfOk result (λ kept. kept ≡ cut kind text.now) }
+/// A text, cut to its column's length in bytes.
+fn cut_text(alloc: Global, kind: ColumnKind, text: Bytes) -> R<Bytes>
+    ensures { IfOk result (λ kept. kept ≡ cut kind text) }
 {
     match kind {
-        ColumnKind::Int | ColumnKind::BigInt => text.copy(alloc),
+        ColumnKind::Int | ColumnKind::BigInt => Ok(text),
         ColumnKind::Text { max } => {
             if text.len() <= max as usize {
-                return text.copy(alloc);
+                return Ok(text);
             }
             Ok(Bytes {
                 items: Vec::from_slice(alloc, text.as_slice().split_at(max as usize).0)?,

@@ -1,17 +1,26 @@
 //! Statements on tables, what they leave of a table's rows, and the scripts of sessions.
 #![tactic(auto)]
 
+pub mod assignments;
 pub mod changes;
+pub mod conditions;
 pub mod effect_laws;
 pub mod effects;
+pub mod evaluation;
 pub mod expressions;
+pub mod reaches;
 pub mod scripts;
 pub mod statements;
 
+pub use assignments::{Assignment, Sets};
 pub use changes::{Change, apply_change, has_key_of, planned, stretch};
-pub use effect_laws::statements_act_key_by_key;
-pub use effects::{act, reach, row_left};
-pub use expressions::{Assignment, Cond, Expr, Op, Sets};
+pub use conditions::Cond;
+pub use effect_laws::{
+    no_taken_row_is_out_of_reach, statements_act_key_by_key, statements_leave_what_is_out_of_reach,
+};
+pub use effects::{act, row_left};
+pub use expressions::{Expr, Op};
+pub use reaches::reach;
 pub use scripts::{Script, ScriptLine, ScriptLines, ScriptStep, Scripts};
 pub use statements::{Statement, Statements};
 

@@ -5,9 +5,12 @@ use row_types::R;
 use std::alloc::Global;
 use std::marker::Model;
 
-/// What a line of a script does.
+/// What a line of a script does. A statement outside BEGIN and its end is a transaction of its own.
 #[derive(Debug, Drop)]
 pub enum ScriptStep {
+    Begin,
+    Commit,
+    Rollback,
     Run(Statement),
 }
 
@@ -23,6 +26,9 @@ impl ScriptStep {
         ensures { IfOk result (λ copy. copy ≡ self.now) }
     {
         match self {
+            ScriptStep::Begin => Ok(ScriptStep::Begin),
+            ScriptStep::Commit => Ok(ScriptStep::Commit),
+            ScriptStep::Rollback => Ok(ScriptStep::Rollback),
             ScriptStep::Run(statement) => Ok(ScriptStep::Run(statement.copy(alloc)?)),
         }
     }
@@ -31,7 +37,11 @@ impl ScriptStep {
         ensures { IsTrue result ↔ (self.now ≡ other.now) }
     {
         match (self, other) {
+            (ScriptStep::Begin, ScriptStep::Begin)
+            | (ScriptStep::Commit, ScriptStep::Commit)
+            | (ScriptStep::Rollback, ScriptStep::Rollback) => true,
             (ScriptStep::Run(ours), ScriptStep::Run(theirs)) => ours.same(theirs),
+            _ => false,
         }
     }
 }
@@ -62,8 +72,13 @@ pub struct ScriptLines {
 impl Model for ScriptLines {
     ghost use Rattle.std.specs.Prelude.{List, ℕ};
     ghost use Rattle.ptc_statement.specs.declared.scripts.ScriptLine.{ScriptLine};
+    ghost use Rattle.std.specs.Coded.{codes};
+    ghost use Rattle.ptc_statement.specs.contracts.expressions.Expr as expr;
+    ghost use Rattle.ptc_statement.specs.contracts.conditions.Cond as condition;
 
     ghost Value = { List ScriptLine };
+
+    ghost coded = { Prim.hlevel (codes, expr.the_row.coded, condition.the_row.coded) };
 
     ghost view = { λ list. list.items.items };
 }
@@ -163,8 +178,13 @@ pub struct Scripts {
 impl Model for Scripts {
     ghost use Rattle.std.specs.Prelude.{List, ℕ};
     ghost use Rattle.ptc_statement.specs.declared.scripts.Script.{Script};
+    ghost use Rattle.std.specs.Coded.{codes};
+    ghost use Rattle.ptc_statement.specs.contracts.expressions.Expr as expr;
+    ghost use Rattle.ptc_statement.specs.contracts.conditions.Cond as condition;
 
     ghost Value = { List Script };
+
+    ghost coded = { Prim.hlevel (codes, expr.the_row.coded, condition.the_row.coded) };
 
     ghost view = { λ list. list.items.items };
 }

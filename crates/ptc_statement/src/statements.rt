@@ -1,19 +1,27 @@
 ghost use Rattle.std.specs.Prelude.{◌≡◌, ◌<◌, ◌^◌, ◌↔◌, List, [], ◌∷◌, ◌++◌, ℕ, length, IsTrue, IfOk, OnOk, OnErr};
-ghost use Rattle.ptc_statement.specs.Effect.{table_of};
+ghost use Rattle.ptc_statement.specs.Effect.{table_of, mode_of};
+ghost use Rattle.ptc_statement.specs.Effect.{is_logged as is_logged_statement};
 
-use crate::expressions::{Cond, Sets, copy_cond, same_cond};
-use row_types::{Digest, DigestKind, R, Row, Span};
+use crate::assignments::Sets;
+use crate::conditions::{Cond, copy_cond, same_cond};
+use row_types::{Digest, DigestKind, LockMode, R, Row, Span};
 use std::alloc::Global;
 use std::marker::Model;
 
 /// A statement on the table of a number, counted from 0. Chunks are numbered from 1.
 ///
-/// INSERT, DELETE and UPDATE are the clients'. The other three are the checksum tool's: pt-table-checksum's REPLACE .. SELECT of a chunk's count and
-/// digest, its UPDATE of the source's values, and its DELETE of a table's earlier checksums.
+/// The first five are the clients'. The other three are the checksum tool's: pt-table-checksum's
+/// REPLACE .. SELECT of a chunk's count and digest, its UPDATE of the source's values, and its DELETE
+/// of a table's earlier checksums.
 #[derive(Debug, Drop)]
 pub enum Statement {
     /// Gives its row where the key is absent.
     Insert {
+        table: u32,
+        row: Row,
+    },
+    /// Gives its row, in place of one that has its key.
+    Replace {
         table: u32,
         row: Row,
     },
@@ -26,6 +34,13 @@ pub enum Statement {
     Update {
         table: u32,
         sets: Sets,
+        cond: Option<Cond>,
+    },
+    /// Reads the rows of the span where the condition is true, or all, and locks what it meets.
+    LockRead {
+        table: u32,
+        mode: LockMode,
+        span: Span,
         cond: Option<Cond>,
     },
     /// Each node sums its own rows of the span.
@@ -55,12 +70,33 @@ impl Statement {
     {
         match self {
             Statement::Insert { table, .. }
+            | Statement::Replace { table, .. }
             | Statement::Delete { table, .. }
             | Statement::Update { table, .. }
+            | Statement::LockRead { table, .. }
             | Statement::Check { table, .. }
             | Statement::SetMaster { table, .. }
             | Statement::ClearChecks { table } => *table,
         }
+    }
+
+    /// The mode of the locks that the statement takes on rows.
+    /// Source: MySQL Reference Manual, "Locks Set by Different SQL Statements in InnoDB".
+    pub fn mode(&self) -> LockMode
+        ensures { result ≡ mode_of self.now }
+    {
+        match self {
+            Statement::LockRead { mode, .. } => *mode,
+            Statement::Check { .. } => LockMode::Shared,
+            _ => LockMode::Exclusive,
+        }
+    }
+
+    /// Whether the statement stands in the log once its transaction commits.
+    pub fn is_logged(&self) -> bool
+        ensures { result ≡ is_logged_statement self.now }
+    {
+        !matches!(self, Statement::LockRead { .. })
     }
 
     pub fn copy(&self, alloc: Global) -> R<Statement>
@@ -71,6 +107,10 @@ impl Statement {
                 table: *table,
                 row: row.copy(alloc)?,
             }),
+            Statement::Replace { table, row } => Ok(Statement::Replace {
+                table: *table,
+                row: row.copy(alloc)?,
+            }),
             Statement::Delete { table, cond } => Ok(Statement::Delete {
                 table: *table,
                 cond: copy_cond(alloc, cond)?,
@@ -78,6 +118,17 @@ impl Statement {
             Statement::Update { table, sets, cond } => Ok(Statement::Update {
                 table: *table,
                 sets: sets.copy(alloc)?,
+                cond: copy_cond(alloc, cond)?,
+            }),
+            Statement::LockRead {
+                table,
+                mode,
+                span,
+                cond,
+            } => Ok(Statement::LockRead {
+                table: *table,
+                mode: *mode,
+                span: span.copy(alloc)?,
                 cond: copy_cond(alloc, cond)?,
             }),
             Statement::Check {
@@ -111,8 +162,15 @@ impl Statement {
     {
         match self {
             Statement::Insert { table, row } => other.is_insert(*table, row),
+            Statement::Replace { table, row } => other.is_replace(*table, row),
             Statement::Delete { table, cond } => other.is_delete(*table, cond),
             Statement::Update { table, sets, cond } => other.is_update(*table, sets, cond),
+            Statement::LockRead {
+                table,
+                mode,
+                span,
+                cond,
+            } => other.is_lock_read(*table, *mode, span, cond),
             Statement::Check {
                 table,
                 chunk,
@@ -141,6 +199,18 @@ impl Statement {
         }
     }
 
+    fn is_replace(&self, table: u32, row: &Row) -> bool
+        ensures { IsTrue result ↔ (self.now ≡ Statement.Replace table row.now) }
+    {
+        match self {
+            Statement::Replace {
+                table: own_table,
+                row: own_row,
+            } => *own_table == table && own_row.same(row),
+            _ => false,
+        }
+    }
+
     fn is_delete(&self, table: u32, cond: &Option<Cond>) -> bool
         ensures { IsTrue result ↔ (self.now ≡ Statement.Delete table cond.now) }
     {
@@ -162,6 +232,25 @@ impl Statement {
                 sets: own_sets,
                 cond: own_cond,
             } => *own_table == table && own_sets.same(sets) && same_cond(own_cond, cond),
+            _ => false,
+        }
+    }
+
+    fn is_lock_read(&self, table: u32, mode: LockMode, span: &Span, cond: &Option<Cond>) -> bool
+        ensures { IsTrue result ↔ (self.now ≡ Statement.LockRead table mode span.now cond.now) }
+    {
+        match self {
+            Statement::LockRead {
+                table: own_table,
+                mode: own_mode,
+                span: own_span,
+                cond: own_cond,
+            } => {
+                *own_table == table
+                    && own_mode.same(&mode)
+                    && own_span.same(span)
+                    && same_cond(own_cond, cond)
+            }
             _ => false,
         }
     }
@@ -223,8 +312,13 @@ pub struct Statements {
 impl Model for Statements {
     ghost use Rattle.std.specs.Prelude.{List, ℕ};
     ghost use Rattle.ptc_statement.specs.declared.statements.Statement.{Statement};
+    ghost use Rattle.std.specs.Coded.{codes};
+    ghost use Rattle.ptc_statement.specs.contracts.expressions.Expr as expr;
+    ghost use Rattle.ptc_statement.specs.contracts.conditions.Cond as condition;
 
     ghost Value = { List Statement };
+
+    ghost coded = { Prim.hlevel (codes, expr.the_row.coded, condition.the_row.coded) };
 
     ghost view = { λ list. list.items.items };
 }

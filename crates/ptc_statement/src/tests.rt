@@ -2,14 +2,16 @@ ghost use Rattle.std.specs.Prelude.{◌≡◌, [], ◌∷◌, pos, IfOk};
 ghost use Rattle.ptc_statement.specs.Planned.{IsRising};
 
 use crate::{
-    Assignment, Change, Cond, Expr, Op, Sets, Statement, Statements, act, apply_change, has_key_of,
-    planned, reach,
+    Assignment, Change, Cond, Expr, Op, Script, ScriptLine, ScriptLines, ScriptStep, Scripts, Sets,
+    Statement, Statements, act, apply_change, has_key_of, planned, reach,
 };
 use row_types::{
-    Bytes, Column, ColumnKind, Columns, Digest, DigestKind, Edge, Key, R, Row, Rows, Schema, Span,
-    Value,
+    Bytes, Column, ColumnKind, Columns, Digest, DigestKind, Edge, Key, LockMode, R, Row, Rows,
+    Schema, Span, Value,
 };
 use std::alloc::Global;
+
+mod condition_tests;
 
 fn column(alloc: Global, kind: ColumnKind, nullable: bool) -> Column {
     Column {
@@ -78,6 +80,13 @@ fn column_is(column: u32, value: Value) -> Option<Cond> {
 
 fn insert(alloc: Global, id: i64, v: i64) -> R<Statement> {
     Ok(Statement::Insert {
+        table: 0,
+        row: row(alloc, id, v)?,
+    })
+}
+
+fn replace(alloc: Global, id: i64, v: i64) -> R<Statement> {
+    Ok(Statement::Replace {
         table: 0,
         row: row(alloc, id, v)?,
     })
@@ -247,6 +256,85 @@ fn keys_are_found(rt: HostRuntime) {
     assert!(rt; !has_id(alloc, 1).expect(&rt, "memory"));
     assert!(rt; !has_id(alloc, 5).expect(&rt, "memory"));
     assert!(rt; !has_id(alloc, 7).expect(&rt, "memory"));
+}
+
+/// A REPLACE puts its row at its place, whether its key is there or not.
+#[test]
+fn replaces_put_rows_in(rt: HostRuntime) {
+    let alloc = rt.alloc();
+    let old = row(alloc, 4, 40).expect(&rt, "memory");
+    let new = row(alloc, 4, 5).expect(&rt, "memory");
+    let put = replace(alloc, 4, 5).expect(&rt, "memory");
+    assert!(rt; gives(alloc, &put, 4, Some(&old), Some(&new)).expect(&rt, "memory"));
+    assert!(rt; gives(alloc, &put, 4, None, Some(&new)).expect(&rt, "memory"));
+    assert!(rt; gives(alloc, &put, 5, None, None).expect(&rt, "memory"));
+    assert!(rt; leaves(alloc, &put, &[(2, 20), (4, 5), (6, 60)]).expect(&rt, "memory"));
+    let put = replace(alloc, 1, 5).expect(&rt, "memory");
+    assert!(rt; leaves(alloc, &put, &[(1, 5), (2, 20), (4, 40), (6, 60)]).expect(&rt, "memory"));
+    let put = replace(alloc, 6, 5).expect(&rt, "memory");
+    assert!(rt; leaves(alloc, &put, &[(2, 20), (4, 40), (6, 5)]).expect(&rt, "memory"));
+    let put = replace(alloc, 7, 5).expect(&rt, "memory");
+    assert!(rt; leaves(alloc, &put, &[(2, 20), (4, 40), (6, 60), (7, 5)]).expect(&rt, "memory"));
+}
+
+/// A locking read leaves every row, is not logged, and reaches the keys of both span and condition.
+#[test]
+fn locking_reads_leave_rows(rt: HostRuntime) {
+    let alloc = rt.alloc();
+    let read = Statement::LockRead {
+        table: 0,
+        mode: LockMode::Shared,
+        span: Span {
+            lo: Edge::Low,
+            hi: Edge::Before(key(alloc, 5).expect(&rt, "memory")),
+        },
+        cond: Some(Cond::Compare {
+            op: Op::Gt,
+            left: Expr::Cell(0),
+            right: Expr::Lit(Value::Int(2)),
+        }),
+    };
+    assert!(rt; !read.is_logged() && read.mode() == LockMode::Shared);
+    assert!(rt; leaves(alloc, &read, &[(2, 20), (4, 40), (6, 60)]).expect(&rt, "memory"));
+    let schema = schema(alloc).expect(&rt, "memory");
+    let reached = reach(alloc, &read, &schema).expect(&rt, "memory");
+    assert!(rt;
+        reached.same(&Span {
+            lo: Edge::After(key(alloc, 2).expect(&rt, "memory")),
+            hi: Edge::Before(key(alloc, 5).expect(&rt, "memory")),
+        })
+    );
+    let clear = Statement::ClearChecks { table: 0 };
+    assert!(rt; clear.is_logged() && clear.mode() == LockMode::Exclusive);
+    assert!(rt; delete(None).is_logged() && delete(None).mode() == LockMode::Exclusive);
+    let copy = read.copy(alloc).expect(&rt, "memory");
+    assert!(rt; copy.same(&read) && !copy.same(&clear));
+}
+
+/// Scripts are copied with each kind of line.
+#[test]
+fn scripts_are_copied(rt: HostRuntime) {
+    let alloc = rt.alloc();
+    let mut lines = ScriptLines::new(alloc);
+    let run = ScriptStep::Run(delete(column_is(1, Value::Null)));
+    for (line, step) in [
+        (7, ScriptStep::Begin),
+        (8, run),
+        (9, ScriptStep::Rollback),
+        (10, ScriptStep::Commit),
+    ] {
+        lines.push(ScriptLine { line, step }).expect(&rt, "memory");
+    }
+    let mut scripts = Scripts::new(alloc);
+    scripts.push(Script { lines }).expect(&rt, "memory");
+    let copy = scripts.copy(alloc).expect(&rt, "memory");
+    assert!(rt; copy.same(&scripts) && copy.len() == 1);
+    let steps = [ScriptStep::Begin, ScriptStep::Rollback, ScriptStep::Commit];
+    for (i, one) in steps.iter().enumerate() {
+        for (j, other) in steps.iter().enumerate() {
+            assert!(rt; one.same(other) == (i == j), "{i} and {j}");
+        }
+    }
 }
 
 /// Copies are the same as what they were made from, and no statement is the same as another.

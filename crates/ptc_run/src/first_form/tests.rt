@@ -167,7 +167,9 @@ fn has_script(workload: &Workload, first: u32, wanted: &[Statement]) -> bool {
     }
     let mut number = first;
     for (line, statement) in lines.iter().zip(wanted.iter()) {
-        let ScriptStep::Run(found) = &line.step;
+        let ScriptStep::Run(found) = &line.step else {
+            return false;
+        };
         if line.line != number || !found.same(statement) {
             return false;
         }

@@ -1,5 +1,5 @@
 use Rattle.std.proofs.Common.{◌≡◌, ◌++◌, drop}
-use Rattle.cluster_core.specs.Texts.{assignments_on}
+use Rattle.cluster_core.specs.StatementTexts.{assignments_on}
 use Rattle.cluster_core.proofs.statement_texts.push_later_assignments.Given as goal
 
 abbrev pub invariant-loop-assignment : goal.invariant-loop-assignment
