@@ -27,3 +27,5 @@ pub use worlds::{RunReport, World};
 
 #[cfg(test)]
 mod report_tests;
+#[cfg(test)]
+mod statement_text_tests;
