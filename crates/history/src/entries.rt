@@ -60,7 +60,6 @@ pub struct Entries {
 impl Model for Entries {
     ghost use Rattle.std.specs.Prelude.{List, ℕ};
     ghost use Rattle.history.specs.declared.entries.Entry.{Entry};
-
     ghost use Rattle.std.specs.Coded.{codes};
     ghost use Rattle.ptc_statement.specs.contracts.expressions.Expr as expr;
     ghost use Rattle.ptc_statement.specs.contracts.conditions.Cond as condition;
