@@ -306,10 +306,9 @@ fn pair(alloc: Global, number: i64, bytes: &[u8]) -> R<Key> {
     Ok(key)
 }
 
-/// Whether the DELETE with the condition reaches from one edge to the other.
-fn reaches(alloc: Global, schema: &Schema, cond: Cond, lo: Edge, hi: Edge) -> R<bool> {
-    let reached = reach(alloc, &delete(Some(cond)), schema)?;
-    Ok(reached.same(&Span { lo, hi }))
+/// The keys that a DELETE with the condition walks.
+fn walked(alloc: Global, schema: &Schema, cond: Cond) -> R<Span> {
+    reach(alloc, &delete(Some(cond)), schema)
 }
 
 /// `(a, b) > (1, 'a') AND (a, b) < (2, '')`.
@@ -326,19 +325,46 @@ fn row_comparisons_narrow(rt: HostRuntime) {
         key: pair(alloc, 2, b"").expect(&rt, "memory"),
     };
     let cond = and(alloc, above, below).expect(&rt, "memory");
-    let lo = Edge::After(pair(alloc, 1, b"a").expect(&rt, "memory"));
-    let hi = Edge::Before(pair(alloc, 2, b"").expect(&rt, "memory"));
-    assert!(rt; reaches(alloc, &schema, cond, lo, hi).expect(&rt, "memory"));
+    let want = Span {
+        lo: Edge::After(pair(alloc, 1, b"a").expect(&rt, "memory")),
+        hi: Edge::Before(pair(alloc, 2, b"").expect(&rt, "memory")),
+    };
+    assert!(rt;
+        walked(alloc, &schema, cond)
+            .expect(&rt, "memory")
+            .same(&want)
+    );
     let first = compare(Op::Eq, Expr::Cell(0), number(1));
-    assert!(rt; reaches(alloc, &schema, first, Edge::Low, Edge::High).expect(&rt, "memory"));
+    let all = walked(alloc, &schema, first).expect(&rt, "memory");
+    assert!(rt; all.same(&Span::whole()));
 }
 
-fn before(alloc: Global, id: i64) -> R<Edge> {
-    Ok(Edge::Before(key(alloc, id)?))
-}
-
-fn after(alloc: Global, id: i64) -> R<Edge> {
-    Ok(Edge::After(key(alloc, id)?))
+/// The span that a sign gives on 5.
+fn of_five(alloc: Global, op: Op) -> R<Span> {
+    let (before, after) = (Edge::Before(key(alloc, 5)?), Edge::After(key(alloc, 5)?));
+    Ok(match op {
+        Op::Eq => Span {
+            lo: before,
+            hi: after,
+        },
+        Op::Ne => Span::whole(),
+        Op::Lt => Span {
+            lo: Edge::Low,
+            hi: before,
+        },
+        Op::Le => Span {
+            lo: Edge::Low,
+            hi: after,
+        },
+        Op::Gt => Span {
+            lo: after,
+            hi: Edge::High,
+        },
+        Op::Ge => Span {
+            lo: before,
+            hi: Edge::High,
+        },
+    })
 }
 
 /// Each sign, with the column on the left and on the right.
@@ -348,58 +374,72 @@ fn comparisons_narrow_either_way(rt: HostRuntime) {
     let schema = four_columns(alloc).expect(&rt, "memory");
     let exchanged = [Op::Eq, Op::Ne, Op::Gt, Op::Ge, Op::Lt, Op::Le];
     for i in 0..6usize {
-        for turned in [false, true] {
-            let cond = if turned {
-                compare(exchanged[i], number(5), Expr::Cell(0))
-            } else {
-                compare(OPS[i], Expr::Cell(0), number(5))
-            };
-            let (lo, hi) = match OPS[i] {
-                Op::Eq => (before(alloc, 5), after(alloc, 5)),
-                Op::Ne => (Ok(Edge::Low), Ok(Edge::High)),
-                Op::Lt => (Ok(Edge::Low), before(alloc, 5)),
-                Op::Le => (Ok(Edge::Low), after(alloc, 5)),
-                Op::Gt => (after(alloc, 5), Ok(Edge::High)),
-                Op::Ge => (before(alloc, 5), Ok(Edge::High)),
-            };
-            let (lo, hi) = (lo.expect(&rt, "memory"), hi.expect(&rt, "memory"));
-            assert!(rt;
-                reaches(alloc, &schema, cond, lo, hi).expect(&rt, "memory"),
-                "{i}"
-            );
-        }
+        let want = of_five(alloc, OPS[i]).expect(&rt, "memory");
+        let left = compare(OPS[i], Expr::Cell(0), number(5));
+        assert!(rt;
+            walked(alloc, &schema, left)
+                .expect(&rt, "memory")
+                .same(&want),
+            "{i}"
+        );
+        let right = compare(exchanged[i], number(5), Expr::Cell(0));
+        assert!(rt;
+            walked(alloc, &schema, right)
+                .expect(&rt, "memory")
+                .same(&want),
+            "{i}"
+        );
     }
 }
 
-/// ANDs under ANDs narrow; OR, NOT, NULL and what is no literal don't.
+/// ANDs under ANDs narrow.
 #[test]
-fn only_joined_terms_narrow(rt: HostRuntime) {
+fn joined_terms_narrow(rt: HostRuntime) {
     let alloc = rt.alloc();
     let schema = four_columns(alloc).expect(&rt, "memory");
-    let inner = and(
-        alloc,
-        compare(Op::Gt, Expr::Cell(0), number(2)),
-        compare(Op::Eq, Expr::Cell(1), number(0)),
-    )
-    .expect(&rt, "memory");
-    let nested = and(alloc, compare(Op::Ge, number(9), Expr::Cell(0)), inner);
-    let (lo, hi) = (after(alloc, 2), after(alloc, 9));
-    let (lo, hi) = (lo.expect(&rt, "memory"), hi.expect(&rt, "memory"));
-    let nested = nested.expect(&rt, "memory");
-    assert!(rt; reaches(alloc, &schema, nested, lo, hi).expect(&rt, "memory"));
+    let above = compare(Op::Gt, Expr::Cell(0), number(2));
+    let other = compare(Op::Eq, Expr::Cell(1), number(0));
+    let inner = and(alloc, above, other).expect(&rt, "memory");
+    let below = compare(Op::Ge, number(9), Expr::Cell(0));
+    let nested = and(alloc, below, inner).expect(&rt, "memory");
+    let want = Span {
+        lo: Edge::After(key(alloc, 2).expect(&rt, "memory")),
+        hi: Edge::After(key(alloc, 9).expect(&rt, "memory")),
+    };
+    assert!(rt;
+        walked(alloc, &schema, nested)
+            .expect(&rt, "memory")
+            .same(&want)
+    );
     let low = compare(Op::Lt, Expr::Cell(0), number(2));
     let high = compare(Op::Gt, Expr::Cell(0), number(9));
-    let none = and(alloc, low, high).expect(&rt, "memory");
-    assert!(rt; reaches(alloc, &schema, none, Edge::Low, Edge::Low).expect(&rt, "memory"));
+    let crossed = and(alloc, low, high).expect(&rt, "memory");
+    let none = walked(alloc, &schema, crossed).expect(&rt, "memory");
+    assert!(rt; !none.has(&key(alloc, 2).expect(&rt, "memory")));
+    assert!(rt; !none.has(&key(alloc, 9).expect(&rt, "memory")));
+}
+
+fn narrows(alloc: Global, cond: Cond) -> R<bool> {
+    let reached = walked(alloc, &four_columns(alloc)?, cond)?;
+    Ok(!reached.same(&Span::whole()))
+}
+
+/// OR, NOT, NULL and what is no literal don't narrow.
+#[test]
+fn other_terms_narrow_nothing(rt: HostRuntime) {
+    let alloc = rt.alloc();
+    let one = compare(Op::Eq, Expr::Cell(0), number(1));
+    assert!(rt; narrows(alloc, one).expect(&rt, "memory"));
     let one = compare(Op::Eq, Expr::Cell(0), number(1));
     let two = compare(Op::Eq, Expr::Cell(0), number(2));
     let either = or(alloc, one, two).expect(&rt, "memory");
-    assert!(rt; reaches(alloc, &schema, either, Edge::Low, Edge::High).expect(&rt, "memory"));
-    let one = not(alloc, compare(Op::Ne, Expr::Cell(0), number(1))).expect(&rt, "memory");
-    assert!(rt; reaches(alloc, &schema, one, Edge::Low, Edge::High).expect(&rt, "memory"));
+    assert!(rt; !narrows(alloc, either).expect(&rt, "memory"));
+    let other = compare(Op::Ne, Expr::Cell(0), number(1));
+    let opposite = not(alloc, other).expect(&rt, "memory");
+    assert!(rt; !narrows(alloc, opposite).expect(&rt, "memory"));
     let null = compare(Op::Eq, Expr::Cell(0), Expr::Lit(Value::Null));
-    assert!(rt; reaches(alloc, &schema, null, Edge::Low, Edge::High).expect(&rt, "memory"));
+    assert!(rt; !narrows(alloc, null).expect(&rt, "memory"));
     let sum = add(alloc, number(2), number(3)).expect(&rt, "memory");
     let of_sum = compare(Op::Eq, Expr::Cell(0), sum);
-    assert!(rt; reaches(alloc, &schema, of_sum, Edge::Low, Edge::High).expect(&rt, "memory"));
+    assert!(rt; !narrows(alloc, of_sum).expect(&rt, "memory"));
 }
