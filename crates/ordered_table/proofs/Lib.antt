@@ -4,3 +4,4 @@ pub mod PlaceLemmas
 pub mod LawLemmas
 pub mod NeighbourLemmas
 pub mod SchemaLemmas
+pub mod SameLemmas

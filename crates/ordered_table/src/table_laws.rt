@@ -70,6 +70,12 @@ pub fn keys_past_an_edge_are_counted_in_order()
         → 1 ≤ n → nth_past key_len edge n rows ≡ None → nth_past key_len edge (n + 1) rows ≡ None }
 {}
 
+/// Rows by rising key that have the same row, or none, at each key are the same rows.
+pub fn rows_are_what_they_have_at_each_key()
+    ensures { (key_len : ℕ) (ours theirs : List (List Value)) → AreOrdered key_len ours → AreOrdered key_len theirs
+        → ((key : List Value) → row_at key_len key ours ≡ row_at key_len key theirs) → ours ≡ theirs }
+{}
+
 /// The rows of a table of a schema rise by the schema's key, each has its key, and putting one in is the
 /// same whether said by the schema or by its key.
 pub fn rows_of_a_schema_are_ordered()

@@ -1,0 +1,4 @@
+pub mod DoneLemmas
+pub mod DueLemmas
+pub mod TestLemmas
+pub mod WithinLemmas

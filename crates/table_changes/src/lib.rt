@@ -1,0 +1,11 @@
+//! What a statement does to a table: worked out first, with all its memory, and then done.
+#![tactic(auto)]
+
+pub mod row_changes;
+pub mod table_changes;
+
+pub use row_changes::{RowChange, RowChanges};
+pub use table_changes::{TableChange, perform, planned};
+
+#[cfg(test)]
+mod tests;
