@@ -1,10 +1,9 @@
 -- What changes of rows keep, and how far they are when some of them are done.
-use Rattle.std.proofs.Common.{◌≡◌, ◌∙◌, ℕ, ◌+◌, ◌-◌, ◌≤◌, Bool, true, false, cond, not, Option, Some, None, List, [], ◌∷◌, ◌++◌, take, refl, ap, sym, subst, arith}
+use Rattle.std.proofs.Common.{◌≡◌, ◌∙◌, ℕ, ◌+◌, ◌-◌, ◌≤◌, cond, not, Option, Some, None, List, [], ◌∷◌, ◌++◌, refl, ap, sym, subst, arith}
 use Rattle.std.specs.Prelude.{is_some, if◌then◌else◌}
 use Rattle.std.specs.List.{AllByRecursion}
-use Rattle.std.specs.Option.{option_to_list}
 use Rattle.row_types.specs.declared.values.Value.{Value}
-use Rattle.ordered_table.specs.KeyRows.{AreOrdered, HasKey, is_at, row_at}
+use Rattle.ordered_table.specs.KeyRows.{AreOrdered, is_at}
 use Rattle.ordered_table.specs.TableView.{TableView}
 use Rattle.ordered_table.proofs.OrderedLemmas.{put_ordered, filter_ordered}
 use Rattle.table_changes.specs.declared.row_changes.RowChange.{RowChange}

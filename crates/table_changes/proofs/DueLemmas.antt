@@ -2,14 +2,13 @@
 use Rattle.std.proofs.Common.{◌≡◌, ◌∙◌, ℕ, ◌≤◌, Bool, true, false, cond, Option, Some, None, List, [], ◌∷◌, take, refl, ap, sym, subst, arith}
 use Rattle.std.specs.Prelude.{is_some}
 use Rattle.std.specs.List.{AllByRecursion}
-use Rattle.std.specs.Ordering.{is_eq}
 use Rattle.row_types.specs.declared.values.Value.{Value}
 use Rattle.row_types.specs.declared.table_schema.Schema.{Schema}
-use Rattle.row_types.specs.Order.{key_cmp, has}
+use Rattle.row_types.specs.Order.{has}
 use Rattle.row_types.specs.Fit.{key_of, RowFits, IsSchema, IsTable}
 use Rattle.ptc_statement.specs.declared.statements.Statement.{Statement}
 use Rattle.ptc_statement.specs.declared.statements.Statement.TheVariants.{Insert, Replace}
-use Rattle.ptc_statement.specs.Reach.{just_key, reach_of}
+use Rattle.ptc_statement.specs.Reach.{reach_of}
 use Rattle.ptc_statement.specs.Effect.{effect, effect_within, rows_after}
 use Rattle.ptc_statement.specs.Effect.{row_at as row_of}
 use Rattle.ptc_statement.specs.Fits.{StatementFits}
@@ -22,7 +21,7 @@ use Rattle.ordered_table.proofs.OrderedLemmas.{filter_ordered}
 use Rattle.ordered_table.proofs.SchemaLemmas.{fitting_key, table_ordered, with_is_put}
 use Rattle.ordered_table.proofs.SameLemmas.{same_rows}
 use Rattle.table_changes.specs.declared.row_changes.RowChange.{RowChange}
-use Rattle.table_changes.specs.declared.row_changes.RowChange.TheVariants.{Gone, Put}
+use Rattle.table_changes.specs.declared.row_changes.RowChange.TheVariants.{Put}
 use Rattle.table_changes.specs.declared.table_changes.TableChange.{TableChange}
 use Rattle.table_changes.specs.RowChanges.{done, room_of, room_for, ChangeHasKey, changes_within}
 use Rattle.table_changes.specs.Plans.{ChangeFits, IsSound, IsDue}
@@ -76,8 +75,8 @@ pub revision_due : (key_len : ℕ) (schema : Schema) (statement : Statement) (ro
 revision_due key_len schema statement rows changes sound of absent is =
     due_by key_len schema statement rows (record { rows = changes; room = 0 }) sound.same_key
     (subst (λ (cs : List RowChange). IsDue schema.key_len schema statement rows (record { rows = cs; room = 0 }))
-      (ap (λ (n : ℕ). changes_within schema statement (rows_in n (reach_of schema statement) rows)) (sym sound.same_key) ∙ sym is)
-      (revised schema statement rows sound.is_schema of sound.is_table absent))
+    (ap (λ (n : ℕ). changes_within schema statement (rows_in n (reach_of schema statement) rows)) (sym sound.same_key) ∙ sym is)
+    (revised schema statement rows sound.is_schema of sound.is_table absent))
 
 -- a row put in where its key is absent
 put_here : (schema : Schema) (number : ℕ) (key row : List Value) (rows : List (List Value)) (here : Bool) → is_at schema.key_len key row ≡ here

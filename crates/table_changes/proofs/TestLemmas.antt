@@ -1,32 +1,24 @@
--- The table of the tests, and statements that fit it.
-use Rattle.std.proofs.Common.{◌≡◌, ◌≤◌, ◌<◌, ℕ, ℤ, pos, true, false, Option, Some, None, List, [], ◌∷◌, refl, sym, subst, arith}
-use Rattle.std.specs.Prelude.{FitsSigned}
-use Rattle.std.specs.Int.{w64}
-use Rattle.row_types.specs.declared.values.Value.{Value}
-use Rattle.row_types.specs.declared.values.Value.TheVariants.{Int}
+-- The assignment of the tests fits their table.
+use Rattle.std.proofs.Common.{◌≡◌, ◌∙◌, true, List, [], ◌∷◌, ◌++◌, ap, sym, subst, arith}
+use Rattle.std.specs.Prelude.{IsTrue}
+use Rattle.std.specs.List.{AllByRecursion, slice_get}
 use Rattle.row_types.specs.declared.table_schema.ColumnKind.TheVariants.{BigInt}
-use Rattle.row_types.specs.declared.table_schema.Column.{Column}
-use Rattle.row_types.specs.declared.table_schema.Schema.{Schema}
-use Rattle.row_types.specs.Fit.{RowFits, IsSchema, IsTable}
-use Rattle.table_changes.specs.TestTable.{pair_schema, three_rows}
+use Rattle.ptc_statement.specs.declared.assignments.Assignment.{Assignment}
+use Rattle.ptc_statement.specs.Fits.{AssignmentFits, is_number, expr_height}
+use Rattle.table_changes.specs.TestTable.{pair_schema}
 
-pub pair_is : (schema : Schema) → schema ≡ pair_schema → IsSchema schema
-pair_is schema is = subst IsSchema (sym is) (record {
-  key = omega arith;
-  most = omega arith;
-  within = omega arith;
-  lengths = (tt, (tt, tt));
-  not_null = (refl, tt);
-})
+set_fits : (assignment : Assignment) → assignment.column ≡ 1 → IsTrue (is_number pair_schema assignment.expr) → expr_height assignment.expr ≡ 1
+    → AssignmentFits pair_schema assignment
+set_fits assignment second number low = record {
+  behind_key = omega (arith, second);
+  column = record { name = []; kind = BigInt; nullable = true };
+  found = ap (slice_get pair_schema.columns) second;
+  kind = number;
+  height = omega (arith, low);
+}
 
-row_fits : (id v : ℤ) → FitsSigned w64 id → FitsSigned w64 v → RowFits pair_schema (Int id ∷ Int v ∷ [])
-row_fits id v first second = (first, (second, tt))
-
-three_are : IsTable pair_schema three_rows
-three_are =
-    (row_fits (pos 2) (pos 20) (omega arith) (omega arith), (refl, (refl, tt)),
-     (row_fits (pos 4) (pos 40) (omega arith) (omega arith), (refl, tt),
-      (row_fits (pos 6) (pos 60) (omega arith) (omega arith), tt, tt)))
-
-pub three_is : (schema : Schema) (rows : List (List Value)) → schema ≡ pair_schema → rows ≡ three_rows → IsTable schema rows
-three_is schema rows same are = subst (λ (s : Schema). IsTable s rows) (sym same) (subst (IsTable pair_schema) (sym are) three_are)
+pub sets_fit : (sets new : List Assignment) (assignment : Assignment) → sets ≡ [] → new ≡ sets ++ assignment ∷ [] → assignment.column ≡ 1
+    → IsTrue (is_number pair_schema assignment.expr) → expr_height assignment.expr ≡ 1 → AllByRecursion (AssignmentFits pair_schema) new
+sets_fit sets new assignment empty one second number low =
+    let all : new ≡ assignment ∷ [] = one ∙ ap (λ (rest : List Assignment). rest ++ assignment ∷ []) empty in
+    subst (AllByRecursion (AssignmentFits pair_schema)) (sym all) (set_fits assignment second number low, tt)

@@ -1,6 +1,6 @@
 -- What the changes of rows in a statement's reach leave at each key.
-use Rattle.std.proofs.Common.{◌≡◌, ◌≢◌, ◌∙◌, ℕ, ◌+◌, Bool, true, false, cond, Option, Some, None, List, [], ◌∷◌, ◌++◌, take, refl, ap, sym, subst, arith}
-use Rattle.std.specs.Prelude.{is_some, filter}
+use Rattle.std.proofs.Common.{◌≡◌, ◌≢◌, ◌∙◌, ℕ, Bool, true, false, cond, Option, Some, None, List, [], ◌∷◌, ◌++◌, take, refl, ap, sym, subst, arith}
+use Rattle.std.specs.Prelude.{is_some}
 use Rattle.std.specs.List.{AllByRecursion}
 use Rattle.std.specs.Ordering.{is_eq}
 use Rattle.row_types.specs.declared.values.Value.{Value}
@@ -91,8 +91,8 @@ within_at schema statement base (row ∷ rows) ordered met key =
     let more = within_at schema statement base rows ordered.2 met.1 in
     one_at schema key row (effect_within schema statement (Some row)) (changes_within schema statement rows) base (is_at schema.key_len key row) refl met.0.keeps
     (still_there schema statement base row rows
-      (row_at schema.key_len (key_of schema row) (done schema.key_len (changes_within schema statement rows) base))
-      (none_behind schema.key_len (key_of schema row) row rows (own_key schema.key_len row) ordered.1) met.0.there (more (key_of schema row)))
+    (row_at schema.key_len (key_of schema row) (done schema.key_len (changes_within schema statement rows) base))
+    (none_behind schema.key_len (key_of schema row) row rows (own_key schema.key_len row) ordered.1) met.0.there (more (key_of schema row)))
     ∙ ap (cond (is_at schema.key_len key row) (effect_within schema statement (Some row))) (more key)
     ∙ left_here schema statement row (row_at schema.key_len key rows) (row_at schema.key_len key base) (is_at schema.key_len key row)
 

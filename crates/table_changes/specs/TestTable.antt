@@ -3,7 +3,6 @@ use Rattle.std.specs.Prelude.{pos, true, false, List, [], ◌∷◌}
 use Rattle.row_types.specs.declared.values.Value.{Value}
 use Rattle.row_types.specs.declared.values.Value.TheVariants.{Int}
 use Rattle.row_types.specs.declared.table_schema.ColumnKind.TheVariants.{BigInt}
-use Rattle.row_types.specs.declared.table_schema.Column.{Column}
 use Rattle.row_types.specs.declared.table_schema.Schema.{Schema}
 
 -- a key of one number, and a number or NULL

@@ -96,12 +96,7 @@ fn replacement(alloc: Global, schema: &Schema, row: &Row, table: &Table) -> R<Ta
 }
 
 /// The change of the rows in the reach of a statement that puts none at an absent key.
-fn revision(
-    alloc: Global,
-    statement: &Statement,
-    schema: &Schema,
-    table: &Table,
-) -> R<TableChange>
+fn revision(alloc: Global, statement: &Statement, schema: &Schema, table: &Table) -> R<TableChange>
     requires statement { StatementFits schema.now statement.now }
     requires absent { effect_within schema.now statement.now None ≡ None }
     requires sound { IsSound schema.now table.now.key_len table.now.rows }

@@ -174,11 +174,17 @@ fn leaves(
 fn insert_puts_at_an_absent_key(rt: HostRuntime) {
     let alloc = rt.alloc();
     let front = insert(alloc, 1, 9).expect(&rt, "memory");
-    assert!(rt; leaves(alloc, &front, 1, 1, &[(1, 9), (2, 20), (4, 40), (6, 60)]).expect(&rt, "memory"));
+    assert!(rt;
+        leaves(alloc, &front, 1, 1, &[(1, 9), (2, 20), (4, 40), (6, 60)]).expect(&rt, "memory")
+    );
     let middle = insert(alloc, 5, 9).expect(&rt, "memory");
-    assert!(rt; leaves(alloc, &middle, 1, 1, &[(2, 20), (4, 40), (5, 9), (6, 60)]).expect(&rt, "memory"));
+    assert!(rt;
+        leaves(alloc, &middle, 1, 1, &[(2, 20), (4, 40), (5, 9), (6, 60)]).expect(&rt, "memory")
+    );
     let end = insert(alloc, 7, 9).expect(&rt, "memory");
-    assert!(rt; leaves(alloc, &end, 1, 1, &[(2, 20), (4, 40), (6, 60), (7, 9)]).expect(&rt, "memory"));
+    assert!(rt;
+        leaves(alloc, &end, 1, 1, &[(2, 20), (4, 40), (6, 60), (7, 9)]).expect(&rt, "memory")
+    );
     let present = insert(alloc, 4, 9).expect(&rt, "memory");
     assert!(rt; leaves(alloc, &present, 0, 0, &[(2, 20), (4, 40), (6, 60)]).expect(&rt, "memory"));
 }
@@ -188,7 +194,9 @@ fn insert_puts_at_an_absent_key(rt: HostRuntime) {
 fn replace_puts_at_each_key(rt: HostRuntime) {
     let alloc = rt.alloc();
     let absent = replace(alloc, 3, 9).expect(&rt, "memory");
-    assert!(rt; leaves(alloc, &absent, 1, 1, &[(2, 20), (3, 9), (4, 40), (6, 60)]).expect(&rt, "memory"));
+    assert!(rt;
+        leaves(alloc, &absent, 1, 1, &[(2, 20), (3, 9), (4, 40), (6, 60)]).expect(&rt, "memory")
+    );
     let present = replace(alloc, 4, 9).expect(&rt, "memory");
     assert!(rt; leaves(alloc, &present, 1, 0, &[(2, 20), (4, 9), (6, 60)]).expect(&rt, "memory"));
 }

@@ -1,4 +1,4 @@
-use Rattle.std.proofs.Common.{◌∙◌, ap, sym, None, Some, ℕ}
+use Rattle.std.proofs.Common.{◌∙◌, ap, sym, ℕ}
 use Rattle.std.specs.Option.{option_copied}
 use Rattle.std.proofs.lemmas.Result.{IfOk-weaker}
 use Rattle.ptc_statement.specs.declared.statements.Statement.TheVariants.{Insert}
@@ -9,13 +9,13 @@ pub returns-in-None : goal.returns-in-None
 returns-in-None c =
     IfOk-weaker c.one_put.result _ _
     (due_when c.args.table.now.key_len c.args.schema.now (λ (number : ℕ). Insert number c.args.row.now) c.args.table.now.rows _
-      (insertion_new c.args.table.now.key_len c.args.schema.now c.in_ok-key.key c.args.row.now c.args.table.now.rows c.requires.sound c.requires.row
-        (c.in_ok-key.ensures ∙ c.key_values.ensures) (sym (ap option_copied c.in-None.is) ∙ c.get.ensures)))
+    (insertion_new c.args.table.now.key_len c.args.schema.now c.in_ok-key.key c.args.row.now c.args.table.now.rows c.requires.sound c.requires.row
+    (c.in_ok-key.ensures ∙ c.key_values.ensures) (sym (ap option_copied c.in-None.is) ∙ c.get.ensures)))
     c.one_put.ensures
 
 pub returns : goal.returns
 returns c =
     due_when c.args.table.now.key_len c.args.schema.now (λ (number : ℕ). Insert number c.args.row.now) c.args.table.now.rows _
     (insertion_old c.args.table.now.key_len c.args.schema.now c.in_ok-key.key c.args.row.now c.in-Some.field-0.now c.args.table.now.rows c.requires.sound c.requires.row
-      (c.in_ok-key.ensures ∙ c.key_values.ensures) (sym (ap option_copied c.in-Some.is) ∙ c.get.ensures))
+    (c.in_ok-key.ensures ∙ c.key_values.ensures) (sym (ap option_copied c.in-Some.is) ∙ c.get.ensures))
     c.nothing.result c.nothing.ensures

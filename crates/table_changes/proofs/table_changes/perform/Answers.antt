@@ -1,6 +1,5 @@
-use Rattle.std.proofs.Common.{◌≡◌, ◌≤◌, sym, subst}
-use Rattle.table_changes.specs.RowChanges.{room_for}
-use Rattle.table_changes.proofs.DoneLemmas.{next_key, next_room, next_way, last_way}
+use Rattle.std.proofs.Common.{◌≤◌, subst}
+use Rattle.table_changes.proofs.DoneLemmas.{next_room, next_way, last_way}
 use Rattle.table_changes.proofs.table_changes.perform.Goals as goal
 
 pub change_row-requires-clause-room : goal.change_row-requires-clause-room

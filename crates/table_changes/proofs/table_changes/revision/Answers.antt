@@ -9,4 +9,4 @@ pub returns : goal.returns
 returns c =
     revision_due c.args.table.now.key_len c.args.schema.now c.args.statement.now c.args.table.now.rows c.in_ok-rows.rows c.requires.sound c.requires.statement c.requires.absent
     (c.in_ok-rows.ensures
-      ∙ ap (λ (span : Span). changes_within c.args.schema.now c.args.statement.now (rows_in c.args.table.now.key_len span c.args.table.now.rows)) c.in_ok-span.ensures)
+    ∙ ap (λ (span : Span). changes_within c.args.schema.now c.args.statement.now (rows_in c.args.table.now.key_len span c.args.table.now.rows)) c.in_ok-span.ensures)
