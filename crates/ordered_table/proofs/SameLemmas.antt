@@ -1,5 +1,5 @@
 -- Rows by rising key that have the same row at each key are the same rows.
-use Rattle.std.proofs.Common.{◌≡◌, ◌∙◌, ℕ, Bool, true, false, cond, Some, None, Option, List, [], ◌∷◌, take, refl, ap, sym}
+use Rattle.std.proofs.Common.{◌≡◌, ◌∙◌, ℕ, Bool, true, false, cond, Some, None, List, [], ◌∷◌, take, refl, ap, sym}
 use Rattle.std.specs.List.{AllByRecursion}
 use Rattle.std.specs.Ordering.{is_eq, is_le}
 use Rattle.std.specs.declared.cmp.Ordering.{Ordering}
