@@ -74,15 +74,23 @@ fn check_entry(alloc: Global, chunk: u32, count: u64, master: Option<Digest>) ->
     })
 }
 
-fn check_statement(alloc: Global) -> R<Vec<u8>> {
-    let mut out = Vec::new(alloc);
-    let statement = Statement::Check {
+fn check_statement(alloc: Global) -> R<Statement> {
+    Ok(Statement::Check {
         table: 0,
         chunk: 1,
         span: span(alloc)?,
         kind: DigestKind::Md5,
-    };
-    push_statement(alloc, &mut out, &schemas(alloc)?, &statement)?;
+    })
+}
+
+fn check_text(alloc: Global) -> R<Vec<u8>> {
+    let statement = check_statement(alloc)?;
+    statement_text(alloc, &statement)
+}
+
+fn statement_text(alloc: Global, statement: &Statement) -> R<Vec<u8>> {
+    let mut out = Vec::new(alloc);
+    push_statement(alloc, &mut out, &schemas(alloc)?, statement)?;
     Ok(out)
 }
 
@@ -210,7 +218,7 @@ fn equal(alloc: Global, ours: Value, theirs: Value) -> R<Vec<u8>> {
 
 #[test]
 fn statements_are_written(rt: HostRuntime) -> Result<(), Fail> {
-    let text = check_statement(rt.alloc())?;
+    let text = check_text(rt.alloc())?;
     assert!(rt;
         text.as_slice() == b"CHECKSUM t CHUNK 1 FROM LOW TO AFTER (1, 'a''b') USING MD5".as_slice()
     );

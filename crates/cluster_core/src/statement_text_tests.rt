@@ -139,35 +139,42 @@ fn conditions_are_written(rt: HostRuntime) {
     assert!(rt; cond_is(alloc, compared, b"(a, b) > (1, -2)").expect(&rt, "memory"));
 }
 
-fn statement_is(alloc: Global, statement: Statement, text: &[u8]) -> R<bool> {
+fn text_of(alloc: Global, statement: &Statement) -> R<Vec<u8>> {
     let mut out = Vec::new(alloc);
-    push_statement(alloc, &mut out, &schemas(alloc)?, &statement)?;
-    Ok(out.as_slice() == text)
+    push_statement(alloc, &mut out, &schemas(alloc)?, statement)?;
+    Ok(out)
+}
+
+fn replacement(alloc: Global) -> R<Statement> {
+    let mut row = Row::new(alloc);
+    row.push(Value::Int(1))?;
+    row.push(Value::Null)?;
+    Ok(Statement::Replace { table: 0, row })
+}
+
+fn replace_text(alloc: Global) -> R<Vec<u8>> {
+    let put = replacement(alloc)?;
+    text_of(alloc, &put)
+}
+
+fn read_text(alloc: Global, mode: LockMode, cond: Option<Cond>) -> R<Vec<u8>> {
+    let read = Statement::LockRead {
+        table: 0,
+        mode,
+        span: Span::whole(),
+        cond,
+    };
+    text_of(alloc, &read)
 }
 
 #[test]
 fn replaces_and_locking_reads_are_written(rt: HostRuntime) {
     let alloc = rt.alloc();
-    let mut row = Row::new(alloc);
-    row.push(Value::Int(1)).expect(&rt, "memory");
-    row.push(Value::Null).expect(&rt, "memory");
-    let put = Statement::Replace { table: 0, row };
-    let text = b"REPLACE INTO t VALUES (1, NULL)";
-    assert!(rt; statement_is(alloc, put, text).expect(&rt, "memory"));
-    let shared = Statement::LockRead {
-        table: 0,
-        mode: LockMode::Shared,
-        span: Span::whole(),
-        cond: Some(is(Op::Gt, 0, 100)),
-    };
-    let text = b"SELECT * FROM t WHERE a > 100 FOR SHARE";
-    assert!(rt; statement_is(alloc, shared, text).expect(&rt, "memory"));
-    let exclusive = Statement::LockRead {
-        table: 0,
-        mode: LockMode::Exclusive,
-        span: Span::whole(),
-        cond: None,
-    };
-    let text = b"SELECT * FROM t FOR UPDATE";
-    assert!(rt; statement_is(alloc, exclusive, text).expect(&rt, "memory"));
+    let text = replace_text(alloc).expect(&rt, "memory");
+    assert!(rt; text.as_slice() == b"REPLACE INTO t VALUES (1, NULL)".as_slice());
+    let above = Some(is(Op::Gt, 0, 100));
+    let text = read_text(alloc, LockMode::Shared, above).expect(&rt, "memory");
+    assert!(rt; text.as_slice() == b"SELECT * FROM t WHERE a > 100 FOR SHARE".as_slice());
+    let text = read_text(alloc, LockMode::Exclusive, None).expect(&rt, "memory");
+    assert!(rt; text.as_slice() == b"SELECT * FROM t FOR UPDATE".as_slice());
 }
