@@ -9,8 +9,8 @@ use Rattle.ptc_statement.specs.declared.scripts.ScriptLine.{ScriptLine}
 use Rattle.ptc_statement.specs.declared.scripts.ScriptStep.{ScriptStep}
 use Rattle.ptc_statement.specs.declared.scripts.ScriptStep.TheVariants.{Begin, Commit, Rollback, Run}
 use Rattle.ptc_statement.specs.Fits.{StatementFits, FitsSchemas}
-use Rattle.history.specs.declared.entries.Origin.{Origin}
-use Rattle.history.specs.declared.entries.Entry.{Entry}
+use Rattle.statement_log.specs.declared.origins.Origin.{Origin}
+use Rattle.statement_log.specs.declared.entries.Entry.{Entry}
 use Rattle.cluster_core.proofs.EachLemmas.{each_append, each_at, each_more}
 use Rattle.cluster_core.proofs.MoveLemmas.{slice_get-within}
 use Rattle.cluster_core.specs.Node.{NodeView, logged}

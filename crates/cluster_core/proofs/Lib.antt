@@ -1,6 +1,7 @@
 pub mod EachLemmas
 pub mod HeadlineLemmas
 pub mod KeptLemmas
+pub mod LiveLemmas
 pub mod MasterLemmas
 pub mod MoveLemmas
 pub mod NodeLemmas

@@ -13,7 +13,7 @@ use Rattle.ptc_statement.specs.declared.statements.Statement.TheVariants.{Check 
 use Rattle.ptc_statement.specs.declared.scripts.ScriptLine.{ScriptLine}
 use Rattle.ptc_statement.specs.declared.scripts.ScriptStep.{ScriptStep}
 use Rattle.ptc_statement.specs.declared.scripts.ScriptStep.TheVariants.{Begin, Commit, Rollback, Run}
-use Rattle.history.specs.declared.entries.Entry.{Entry}
+use Rattle.statement_log.specs.declared.entries.Entry.{Entry}
 use Rattle.checksum_table.specs.declared.check_rows.CheckRow.{CheckRow}
 use Rattle.checksum_table.specs.Checks.{check_at}
 use Rattle.history.specs.Replay.{applied_of, applying}

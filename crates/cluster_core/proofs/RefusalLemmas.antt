@@ -10,8 +10,8 @@ use Rattle.ptc_statement.specs.declared.statements.Statement.{Statement}
 use Rattle.ptc_statement.specs.declared.scripts.Script.{Script}
 use Rattle.ptc_statement.specs.declared.scripts.ScriptLine.{ScriptLine}
 use Rattle.ptc_statement.specs.declared.scripts.ScriptStep.TheVariants.{Run}
-use Rattle.history.specs.declared.entries.Origin.TheVariants.{Session}
-use Rattle.history.specs.declared.entries.Entry.{Entry}
+use Rattle.statement_log.specs.declared.origins.Origin.TheVariants.{Session}
+use Rattle.statement_log.specs.declared.entries.Entry.{Entry}
 use Rattle.cluster_core.specs.Node.{NodeView, logged}
 use Rattle.cluster_core.specs.Sessions.{SessionView, unstarted, is_duplicate}
 use Rattle.cluster_core.specs.Workload.{LinesRise}

@@ -5,7 +5,7 @@ use Rattle.row_types.specs.declared.table_schema.Schema.{Schema}
 use Rattle.ptc_statement.specs.declared.statements.Statement.{Statement}
 use Rattle.ptc_statement.specs.declared.scripts.ScriptLine.{ScriptLine}
 use Rattle.ptc_statement.specs.Fits.{FitsSchemas}
-use Rattle.history.specs.declared.entries.Entry.{Entry}
+use Rattle.statement_log.specs.declared.entries.Entry.{Entry}
 use Rattle.cluster_core.specs.Node.{NodeView}
 use Rattle.cluster_core.specs.Workload.{StepFits}
 use Rattle.cluster_core.specs.Sessions.{SessionView}

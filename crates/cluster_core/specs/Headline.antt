@@ -10,9 +10,9 @@ use Rattle.ptc_statement.specs.declared.scripts.ScriptLine.{ScriptLine}
 use Rattle.ptc_statement.specs.declared.scripts.ScriptStep.{ScriptStep}
 use Rattle.ptc_statement.specs.declared.scripts.ScriptStep.TheVariants.{Begin, Commit, Rollback, Run}
 use Rattle.ptc_statement.specs.Fits.{IsClients}
-use Rattle.history.specs.declared.entries.Origin.{Origin}
-use Rattle.history.specs.declared.entries.Origin.TheVariants.{Session, Checksum, Applied}
-use Rattle.history.specs.declared.entries.Entry.{Entry}
+use Rattle.statement_log.specs.declared.origins.Origin.{Origin}
+use Rattle.statement_log.specs.declared.origins.Origin.TheVariants.{Session, Checksum, Sync, Local, Applied}
+use Rattle.statement_log.specs.declared.entries.Entry.{Entry}
 use Rattle.checksum_table.specs.declared.check_rows.Verdict.TheVariants.{Same, Differ, Pending}
 use Rattle.row_digest.specs.Digest.{digest_of}
 use Rattle.history.specs.Replay.{chunk_rows, source_at, replica_at, Follows}
@@ -94,6 +94,8 @@ calls_of refused (line ∷ lines) = step_call line.step (is_among line.line refu
 abbrev pub is_by : ℕ → Origin → Bool
 is_by session (Session other) = other == session
 is_by session Checksum = false
+is_by session (Sync replica table span) = false
+is_by session (Local other) = false
 is_by session (Applied number) = false
 
 -- the statements of each entry that a session logged, in order
@@ -162,6 +164,8 @@ IsTools statement = IsClients statement → ⊥
 abbrev pub IsOwnedBy : ℕ → Origin → List Statement → Type 0
 IsOwnedBy sessions (Session session) statements = (1 ≤ session) × (session ≤ sessions)
 IsOwnedBy sessions Checksum statements = AllByRecursion IsTools statements
+IsOwnedBy sessions (Sync replica table span) statements = ⊥
+IsOwnedBy sessions (Local session) statements = ⊥
 IsOwnedBy sessions (Applied number) statements = ⊥
 
 -- what holds of the world at the end of a run

@@ -1,12 +1,10 @@
 -- A node: its schemas, what it began with, and its history.
-use Rattle.std.specs.Prelude.{ℕ, List, [], ◌∷◌, ◌++◌, Option, option_and_then}
-use Rattle.std.specs.List.{slice_get}
+use Rattle.std.specs.Prelude.{ℕ, List, [], ◌∷◌, ◌++◌, Option}
 use Rattle.row_types.specs.declared.values.Value.{Value}
 use Rattle.row_types.specs.declared.table_schema.Schema.{Schema}
-use Rattle.history.specs.declared.entries.Entry.{Entry}
-use Rattle.row_types.specs.Fit.{key_of}
-use Rattle.ptc_statement.specs.Effect.{row_at}
-use Rattle.history.specs.Replay.{Replayed, fold, table_rows}
+use Rattle.statement_log.specs.declared.entries.Entry.{Entry}
+use Rattle.history.specs.Replay.{Replayed, fold}
+use Rattle.cluster_core.specs.LiveTables.{row_in}
 
 pub record NodeView : Type 0 where
   pub schemas : List Schema
@@ -23,6 +21,4 @@ logged node entry = record node { history = node.history ++ entry ∷ [] }
 
 -- the row that a node has at a key of a table
 abbrev pub row_on : NodeView → ℕ → List Value → Option (List Value)
-row_on node table row =
-    option_and_then (λ (schema : Schema). row_at schema (key_of schema row) (table_rows (replayed_of node).tables table))
-    (slice_get node.schemas table)
+row_on node table row = row_in node.schemas (replayed_of node).tables table row

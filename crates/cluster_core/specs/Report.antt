@@ -8,11 +8,12 @@ use Rattle.std.specs.Cmp.Lexicographic.{slice_cmp}
 use Rattle.row_types.specs.declared.values.Value.{Value}
 use Rattle.row_types.specs.declared.table_schema.Schema.{Schema}
 use Rattle.row_types.specs.declared.digests.Digest.{Digest}
+use Rattle.row_types.specs.declared.edges.Span.{Span}
 use Rattle.row_types.specs.Order.{key_cmp}
 use Rattle.ptc_statement.specs.declared.statements.Statement.{Statement}
-use Rattle.history.specs.declared.entries.Origin.{Origin}
-use Rattle.history.specs.declared.entries.Origin.TheVariants.{Session, Checksum, Applied}
-use Rattle.history.specs.declared.entries.Entry.{Entry}
+use Rattle.statement_log.specs.declared.origins.Origin.{Origin}
+use Rattle.statement_log.specs.declared.origins.Origin.TheVariants.{Session, Checksum, Sync, Local, Applied}
+use Rattle.statement_log.specs.declared.entries.Entry.{Entry}
 use Rattle.checksum_table.specs.declared.check_rows.CheckRow.{CheckRow}
 use Rattle.checksum_table.specs.declared.check_rows.CheckEntry.{CheckEntry}
 use Rattle.checksum_table.specs.declared.check_rows.Verdict.{Verdict}
@@ -45,32 +46,57 @@ tables_lines schemas word node table [] = []
 tables_lines schemas word node table (rows ∷ tables) =
     rows_lines word node (name_of schemas table) rows ++ tables_lines schemas word node (table + 1) tables
 
-unfoldable pub origin_text : Origin → List ℕ
-origin_text (Session session) = codes "s" ++ decimal session
-origin_text Checksum = codes "c"
-origin_text (Applied entry) = codes "applied " ++ decimal entry
+-- the repair tool of a replica, with the table and the span that it mended
+unfoldable pub repair_text : List Schema → ℕ → ℕ → Span → List ℕ
+repair_text schemas replica table span = codes "y" ++ decimal replica ++ codes " " ++ name_of schemas table ++ codes " " ++ span_text span
+
+unfoldable pub origin_text : List Schema → Origin → List ℕ
+origin_text schemas (Session session) = codes "s" ++ decimal session
+origin_text schemas Checksum = codes "c"
+origin_text schemas (Sync replica table span) = repair_text schemas replica table span
+origin_text schemas (Local session) = codes "l" ++ decimal session
+origin_text schemas (Applied entry) = codes "applied " ++ decimal entry
 
 unfoldable pub statement_line : List Schema → Statement → List ℕ
 statement_line schemas statement = codes "  " ++ statement_text schemas statement ++ codes "\n"
 
-unfoldable pub entry_line : ℕ → Origin → List ℕ
-entry_line number origin = codes "LOG " ++ decimal number ++ codes " " ++ origin_text origin ++ codes "\n"
+unfoldable pub entry_line : List Schema → ℕ → Origin → List ℕ
+entry_line schemas number origin = codes "LOG " ++ decimal number ++ codes " " ++ origin_text schemas origin ++ codes "\n"
 
 -- an entry of the log and its statements
 unfoldable pub entry_lines : List Schema → ℕ → Entry → List ℕ
-entry_lines schemas number entry = entry_line number entry.origin ++ flat_map (statement_line schemas) entry.statements
+entry_lines schemas number entry = entry_line schemas number entry.origin ++ flat_map (statement_line schemas) entry.statements
 
 -- the entries of a log, the first of this number
 abbrev pub log_lines : List Schema → ℕ → List Entry → List ℕ
 log_lines schemas number [] = []
 log_lines schemas number (entry ∷ entries) = entry_lines schemas number entry ++ log_lines schemas (number + 1) entries
 
--- an item of a replica's history
-unfoldable pub item_line : ℕ → Entry → List ℕ
-item_line replica item = codes "HISTORY " ++ replica_text replica ++ codes " " ++ origin_text item.origin ++ codes "\n"
+-- a local session stands behind its replica
+unfoldable pub item_origin_text : List Schema → ℕ → Origin → List ℕ
+item_origin_text schemas replica (Session session) = origin_text schemas (Session session)
+item_origin_text schemas replica Checksum = origin_text schemas Checksum
+item_origin_text schemas replica (Sync repaired table span) = origin_text schemas (Sync repaired table span)
+item_origin_text schemas replica (Local session) = codes "local " ++ replica_text replica ++ codes "." ++ origin_text schemas (Local session)
+item_origin_text schemas replica (Applied entry) = origin_text schemas (Applied entry)
 
-abbrev pub history_lines : ℕ → List Entry → List ℕ
-history_lines replica history = flat_map (item_line replica) history
+unfoldable pub item_line : List Schema → ℕ → Origin → List ℕ
+item_line schemas replica origin = codes "HISTORY " ++ replica_text replica ++ codes " " ++ item_origin_text schemas replica origin ++ codes "\n"
+
+-- the statements under an item: those of an entry that was applied stand in the log
+abbrev pub statements_under : Origin → List Statement → List Statement
+statements_under (Session session) statements = statements
+statements_under Checksum statements = statements
+statements_under (Sync replica table span) statements = statements
+statements_under (Local session) statements = statements
+statements_under (Applied entry) statements = []
+
+-- an item of a replica's history
+unfoldable pub item_lines : List Schema → ℕ → Entry → List ℕ
+item_lines schemas replica item = item_line schemas replica item.origin ++ flat_map (statement_line schemas) (statements_under item.origin item.statements)
+
+abbrev pub history_lines : List Schema → ℕ → List Entry → List ℕ
+history_lines schemas replica history = flat_map (item_lines schemas replica) history
 
 -- by the replica's row of the chunk; where it has none, by that of the source, with no counts
 abbrev pub verdict_line : ℕ → CheckEntry → Option CheckRow → VerdictLine
@@ -191,7 +217,7 @@ starts_text w =
 
 -- the log and each replica's history
 unfoldable pub histories_text : WorldView → List ℕ
-histories_text w = log_lines w.source.schemas 1 w.source.history ++ each_replica (λ replica (node : NodeView). history_lines replica node.history) 1 w.replicas
+histories_text w = log_lines w.source.schemas 1 w.source.history ++ each_replica (λ replica (node : NodeView). history_lines w.source.schemas replica node.history) 1 w.replicas
 
 unfoldable pub verdicts_text : WorldView → List ℕ
 verdicts_text w = flat_map (verdict_line_text w.source.schemas) (verdicts_of w)

@@ -8,8 +8,8 @@ use Rattle.row_types.specs.declared.digests.DigestKind.TheVariants.{Md5}
 use Rattle.row_types.specs.declared.table_schema.Schema.{Schema}
 use Rattle.ptc_statement.specs.declared.statements.Statement.{Statement}
 use Rattle.ptc_statement.specs.declared.statements.Statement.TheVariants.{Check as CheckStatement, SetMaster, ClearChecks}
-use Rattle.history.specs.declared.entries.Origin.TheVariants.{Checksum}
-use Rattle.history.specs.declared.entries.Entry.{Entry}
+use Rattle.statement_log.specs.declared.origins.Origin.TheVariants.{Checksum}
+use Rattle.statement_log.specs.declared.entries.Entry.{Entry}
 use Rattle.checksum_table.specs.declared.check_rows.CheckRow.{CheckRow}
 use Rattle.checksum_table.specs.Checks.{check_at}
 use Rattle.history.specs.Replay.{applied_of, applying}

@@ -4,6 +4,7 @@
 pub mod actors;
 mod condition_texts;
 pub mod laws;
+pub mod live_tables;
 pub mod nodes;
 mod report;
 mod report_duplicates;
@@ -18,6 +19,7 @@ pub mod workload;
 pub mod worlds;
 
 pub use actors::{Actor, ToolPhase};
+pub use live_tables::LiveTables;
 pub use nodes::Node;
 pub use report_verdicts::VerdictLine;
 pub use schedule::{Item, Schedule};

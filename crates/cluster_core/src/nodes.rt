@@ -1,30 +1,25 @@
-ghost use Rattle.std.specs.Prelude.{◌≡◌, ◌<◌, ◌≤◌, ◌^◌, ◌↔◌, ◌++◌, [], ◌∷◌, length, is_some, unwrap_or, IfOk, OnOk, OnErr};
+ghost use Rattle.std.specs.Prelude.{◌≡◌, ◌++◌, [], ◌∷◌, unwrap_or, is_some, ◌<◌, vec_len, vec_capacity, IfOk, OnOk, OnErr};
 ghost use Rattle.std.specs.List.{AllByRecursion};
 ghost use Rattle.row_types.specs.Fit.{IsSchema, AreTables};
-ghost use Rattle.ptc_statement.specs.Effect.{table_of};
 ghost use Rattle.ptc_statement.specs.Fits.{FitsSchemas};
-ghost use Rattle.ptc_statement.specs.Planned.{replaced};
-ghost use Rattle.row_digest.specs.Digest.{digest_of};
-ghost use Rattle.history.specs.Replay.{applied_of, checks_after, chunk_rows, position_of, table_rows, tables_after};
+ghost use Rattle.history.specs.Replay.{applied_of, checks_after, position_of, tables_after};
 ghost use Rattle.cluster_core.specs.Node.{replayed_of, logged, row_on};
-ghost use Rattle.cluster_core.specs.Checkable.{AreCheckable, with_change};
 
+use crate::live_tables::LiveTables;
 use checksum_table::{CheckRow, Checks};
-use history::{Entries, Entry, Origin};
-use ptc_statement::{Change, Statement, Statements, apply_change, has_key_of, planned};
-use row_digest::digest_rows;
-use row_types::{Digest, DigestKind, R, Row, Rows, Schemas, Span, Tables};
+use ptc_statement::{Statement, Statements};
+use row_types::{R, Row, Schemas, Tables};
+use statement_log::{Entry, Log, Origin};
 use std::alloc::Global;
 use std::marker::Model;
 
 /// A server: the source or a replica. It is seen as its schemas, the rows that it began with and its
-/// history; its live rows and check rows are the replay of that history.
+/// history; its live tables and check rows are the replay of that history.
 #[derive(Drop)]
 pub struct Node {
-    schemas: Schemas,
+    live: LiveTables,
     start: Tables,
-    history: Entries,
-    live: Tables,
+    history: Log,
     checks: Checks,
     applied: u64,
     alloc: Global,
@@ -49,18 +44,16 @@ impl Model for Node {
 
 impl Node {
     /// A node whose history is empty.
-    #[tactic(auto, using(crate::proofs::NodeLemmas::are_checkable))]
     pub fn new(alloc: Global, schemas: Schemas, start: Tables) -> R<Node>
         requires schemas { AllByRecursion IsSchema schemas.tables }
         requires start { AreTables schemas.tables start }
         ensures { IfOk result (λ node. node ≡ record { schemas = schemas.tables; start = start; history = [] }) }
     {
-        let live = start.copy(alloc)?;
+        let live = LiveTables::new(alloc, schemas, &start)?;
         Ok(Node {
-            schemas,
-            start,
-            history: Entries::new(alloc),
             live,
+            start,
+            history: Log::new(alloc),
             checks: Checks::new(alloc),
             applied: 0,
             alloc,
@@ -74,21 +67,16 @@ impl Node {
         ensures ok { OnOk result (self.new ≡ logged self.old (record { origin = origin; statements = statement ∷ [] })) }
         ensures err { OnErr result (self.new ≡ self.old) }
     {
-        let number = self.history.len() as u64 + 1;
-        let position = position_from(number, origin);
-        let applied = position_from(self.applied, origin);
-        let table = statement.table();
-        let checks = checks_of(
+        let position = position_from(self.history.len() + 1, &origin);
+        let applied = position_from(self.applied, &origin);
+        let checks = checks_of(self.alloc, &self.live, &self.checks, position, &statement)?;
+        enter(
             self.alloc,
-            &self.schemas,
-            &self.live,
-            &self.checks,
-            position,
-            &statement,
+            &mut self.history,
+            &mut self.live,
+            origin,
+            statement,
         )?;
-        let change = change_of(self.alloc, &self.schemas, &self.live, &statement)?;
-        let entry = entry_of(self.alloc, origin, statement)?;
-        enter(&mut self.history, entry, &mut self.live, table, change)?;
         put_checks(&mut self.checks, checks);
         self.applied = applied;
         Ok(())
@@ -98,16 +86,13 @@ impl Node {
     pub fn has_row(&self, table: u32, row: &Row) -> bool
         ensures { result ≡ is_some (row_on self.now table row.now) }
     {
-        match self.schemas.tables.get(table) {
-            None => false,
-            Some(schema) => has_key_of(schema, self.live.rows_of(table), row),
-        }
+        self.live.has_row(table, row)
     }
 
     pub fn schemas(&self) -> &Schemas
         ensures { result.now.tables ≡ self.now.schemas }
     {
-        &self.schemas
+        self.live.schemas()
     }
 
     /// The rows that the node began with.
@@ -117,15 +102,15 @@ impl Node {
         &self.start
     }
 
-    pub fn history(&self) -> &Entries
-        ensures { result.now ≡ self.now.history }
+    pub fn history(&self) -> &Log
+        ensures { result.now.entries ≡ self.now.history }
     {
         &self.history
     }
 
-    /// The rows as they are now.
-    pub fn live(&self) -> &Tables
-        ensures { result.now ≡ (replayed_of self.now).tables }
+    /// The tables as they are now.
+    pub fn live(&self) -> &LiveTables
+        ensures { result.now.tables ≡ (replayed_of self.now).tables }
     {
         &self.live
     }
@@ -146,36 +131,64 @@ impl Node {
 }
 
 /// The position of an item of this number.
-fn position_from(number: u64, origin: Origin) -> u64
-    ensures { result ≡ position_of number origin }
+fn position_from(number: u64, origin: &Origin) -> u64
+    ensures { result ≡ position_of number origin.now }
 {
     match origin {
-        Origin::Session(_) | Origin::Checksum => number,
-        Origin::Applied(entry) => entry,
+        Origin::Session(_) | Origin::Checksum | Origin::Sync { .. } | Origin::Local(_) => number,
+        Origin::Applied(entry) => *entry,
     }
 }
 
-/// The entry of one statement.
-fn entry_of(alloc: Global, origin: Origin, statement: Statement) -> R<Entry>
-    ensures { IfOk result (λ entry. entry ≡ record { origin = origin; statements = statement ∷ [] }) }
+/// Does a statement to the live tables and puts it at the end of the history, as an entry of its own;
+/// a refusal leaves both.
+fn enter(
+    alloc: Global,
+    history: &mut Log,
+    live: &mut LiveTables,
+    origin: Origin,
+    statement: Statement,
+) -> R<()>
+    requires { FitsSchemas live.old.schemas statement }
+    ensures history { OnOk result (history.new.entries ≡ history.old.entries ++ record { origin = origin; statements = statement ∷ [] } ∷ []) }
+    ensures live { OnOk result (live.new ≡ record live.old { tables = tables_after live.old.schemas statement live.old.tables }) }
+    ensures history_left { OnErr result (history.new.entries ≡ history.old.entries) }
+    ensures live_left { OnErr result (live.new ≡ live.old) }
 {
-    let mut statements = Statements::new(alloc);
-    statements.push(statement)?;
-    Ok(Entry { origin, statements })
+    history.reserve()?;
+    let mut items = Vec::new(alloc);
+    items.reserve(1)?;
+    live.change(alloc, &statement)?;
+    put_only(&mut items, statement);
+    let statements = Statements { items };
+    match history.append(Entry { origin, statements }) {
+        Ok(_) => Ok(()),
+        Err(_) => unreachable!(),
+    }
+}
+
+/// Puts a statement into an empty list with room for it.
+fn put_only(items: &mut Vec<Statement>, statement: Statement)
+    requires empty { items.old.items ≡ [] }
+    requires room { vec_len items.old < vec_capacity items.old }
+    ensures { items.new.items ≡ statement ∷ [] }
+{
+    match items.push(statement) {
+        Ok(()) => {}
+        Err(_) => unreachable!(),
+    }
 }
 
 /// The check rows after a statement at this position, made beside the present ones; none where these
 /// stay.
 fn checks_of(
     alloc: Global,
-    schemas: &Schemas,
-    live: &Tables,
+    live: &LiveTables,
     checks: &Checks,
     position: u64,
     statement: &Statement,
 ) -> R<Option<Checks>>
-    requires { AreCheckable schemas.now.tables live.now }
-    ensures { IfOk result (λ after. unwrap_or after checks.now ≡ checks_after schemas.now.tables position statement.now (record { tables = live.now; checks = checks.now })) }
+    ensures { IfOk result (λ after. unwrap_or after checks.now ≡ checks_after live.now.schemas position statement.now (record { tables = live.now.tables; checks = checks.now })) }
 {
     match statement {
         Statement::Insert { .. }
@@ -192,7 +205,7 @@ fn checks_of(
             let row = CheckRow {
                 span: span.copy(alloc)?,
                 kind: *kind,
-                this: chunk_digest(alloc, schemas, live, *table, span, *kind)?,
+                this: live.digest(alloc, *kind, *table, span)?,
                 master: None,
                 position,
             };
@@ -224,84 +237,5 @@ fn put_checks(checks: &mut Checks, new: Option<Checks>)
 {
     if let Some(new) = new {
         *checks = new;
-    }
-}
-
-/// The change that a statement makes to the rows of its table, none where there is no such table.
-fn change_of(alloc: Global, schemas: &Schemas, live: &Tables, statement: &Statement) -> R<Change>
-    requires schemas { AllByRecursion IsSchema schemas.now.tables }
-    requires tables { AreTables schemas.now.tables live.now }
-    ensures ordered { IfOk result (λ change. change.from ≤ change.to) }
-    ensures within { IfOk result (λ change. change.to ≤ length (table_rows live.now (table_of statement.now))) }
-    ensures tables { IfOk result (λ change. tables_after schemas.now.tables statement.now live.now ≡ with_change live.now (table_of statement.now) change.from change.to change.rows) }
-{
-    let table = statement.table();
-    match schemas.tables.get(table) {
-        None => Ok(Change {
-            from: 0,
-            to: 0,
-            rows: Rows::new(alloc),
-        }),
-        Some(schema) => planned(alloc, statement, schema, live.rows_of(table)),
-    }
-}
-
-/// Puts an entry at the end of the history and does its change to a table; a refusal leaves both.
-fn enter(
-    history: &mut Entries,
-    entry: Entry,
-    live: &mut Tables,
-    table: u32,
-    change: Change,
-) -> R<()>
-    requires ordered { change.from ≤ change.to }
-    requires within { change.to ≤ length (table_rows live.old table) }
-    ensures history { OnOk result (history.new ≡ history.old ++ entry ∷ []) }
-    ensures live { OnOk result (live.new ≡ with_change live.old table change.from change.to change.rows) }
-    ensures history_left { OnErr result (history.new ≡ history.old) }
-    ensures live_left { OnErr result (live.new ≡ live.old) }
-{
-    let place = table as usize;
-    if place >= live.items.len() {
-        return history.push(entry);
-    }
-    enter_change(history, entry, &mut live.items[place], change)
-}
-
-/// Puts an entry at the end of the history and does its change to rows; a refusal leaves both.
-fn enter_change(history: &mut Entries, entry: Entry, rows: &mut Rows, change: Change) -> R<()>
-    requires ordered { change.from ≤ change.to }
-    requires within { change.to ≤ length rows.old }
-    ensures history { OnOk result (history.new ≡ history.old ++ entry ∷ []) }
-    ensures rows { OnOk result (rows.new ≡ replaced change.from change.to change.rows rows.old) }
-    ensures history_left { OnErr result (history.new ≡ history.old) }
-    ensures rows_left { OnErr result (rows.new ≡ rows.old) }
-{
-    let more = change.rows.len().saturating_sub(change.to - change.from);
-    rows.items.reserve(more)?;
-    history.push(entry)?;
-    apply_change(&mut rows.items, change);
-    Ok(())
-}
-
-/// The checksum of a table's rows in a span; a table that isn't there has no rows.
-#[tactic(auto, using(crate::proofs::NodeLemmas::checkable_at))]
-fn chunk_digest(
-    alloc: Global,
-    schemas: &Schemas,
-    live: &Tables,
-    table: u32,
-    span: &Span,
-    kind: DigestKind,
-) -> R<Digest>
-    requires { AreCheckable schemas.now.tables live.now }
-    ensures { IfOk result (λ digest. digest ≡ digest_of kind (chunk_rows schemas.now.tables live.now table span.now)) }
-{
-    match schemas.tables.get(table) {
-        None => Ok(Digest {
-            count: 0,
-            xor: [0; 20],
-        }),
-        Some(schema) => digest_rows(alloc, kind, schema, span, live.rows_of(table)),
     }
 }

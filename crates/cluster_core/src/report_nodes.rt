@@ -5,13 +5,14 @@ ghost use Rattle.std.specs.List.{flat_map, list_any};
 ghost use Rattle.cluster_core.specs.Node.{NodeView, replayed_of};
 ghost use Rattle.cluster_core.specs.Report.{each_replica, start_lines, final_lines, equals_of, history_lines, verdicts_from, verdict_line_text, differs, duplicates_from};
 
+use crate::live_tables::LiveTables;
 use crate::nodes::Node;
-use crate::report::{push_equal, push_history, push_replica_tables};
+use crate::report::{push_equal, push_history, push_replica_live, push_replica_tables};
 use crate::report_duplicates::push_duplicates;
 use crate::report_verdicts::push_verdicts;
 use crate::sessions::Session;
 use checksum_table::Checks;
-use row_types::{R, SchemaList, Tables};
+use row_types::{R, SchemaList};
 use std::alloc::Global;
 
 /// What each replica began with.
@@ -34,13 +35,18 @@ pub(crate) fn push_each_start(
 }
 
 /// Each replica's history.
-pub(crate) fn push_each_history(alloc: Global, out: &mut Vec<u8>, replicas: &[Node]) -> R<()>
+pub(crate) fn push_each_history(
+    alloc: Global,
+    out: &mut Vec<u8>,
+    schemas: &SchemaList,
+    replicas: &[Node],
+) -> R<()>
     requires { length replicas.now < 2 ^ 31 }
-    ensures { OnOk result (out.new.items ≡ out.old.items ++ each_replica (λ replica (node : NodeView). history_lines replica node.history) 1 replicas.now) }
+    ensures { OnOk result (out.new.items ≡ out.old.items ++ each_replica (λ replica (node : NodeView). history_lines schemas.now replica node.history) 1 replicas.now) }
 {
     let (mut rest, mut replica) = (replicas, 1u32);
     while let Some((node, more)) = rest.split_first() {
-        push_history(alloc, out, replica, node.history())?;
+        push_history(alloc, out, schemas, replica, node.history())?;
         rest = more;
         replica += 1;
     }
@@ -82,7 +88,7 @@ pub(crate) fn push_each_final(
 {
     let (mut rest, mut replica) = (replicas, 1u32);
     while let Some((node, more)) = rest.split_first() {
-        push_replica_tables(alloc, out, schemas, b"FINAL", replica, node.live())?;
+        push_replica_live(alloc, out, schemas, b"FINAL", replica, node.live())?;
         rest = more;
         replica += 1;
     }
@@ -94,11 +100,11 @@ pub(crate) fn push_each_equal(
     alloc: Global,
     out: &mut Vec<u8>,
     schemas: &SchemaList,
-    source: &Tables,
+    source: &LiveTables,
     replicas: &[Node],
 ) -> R<()>
     requires { length replicas.now < 2 ^ 31 }
-    ensures { OnOk result (out.new.items ≡ out.old.items ++ each_replica (equals_of schemas.now source.now) 1 replicas.now) }
+    ensures { OnOk result (out.new.items ≡ out.old.items ++ each_replica (equals_of schemas.now source.now.tables) 1 replicas.now) }
 {
     let (mut rest, mut replica) = (replicas, 1u32);
     while let Some((node, more)) = rest.split_first() {

@@ -1,14 +1,18 @@
-use crate::report::{push_equal, push_head, push_log};
+ghost use Rattle.std.specs.Prelude.{◌≡◌, [], ◌∷◌, IfOk};
+ghost use Rattle.row_types.specs.declared.values.Value.TheVariants.{Int};
+
+use crate::report::{push_each_equal_line, push_head, push_history, push_log};
 use crate::report_duplicates::push_duplicates;
 use crate::report_verdicts::push_verdicts;
 use crate::statement_texts::push_statement;
 use checksum_table::{CheckEntry, CheckRow, Checks};
-use history::{Entries, Entry, Origin};
+use ordered_table::Table;
 use ptc_statement::{Assignment, Cond, Expr, Op, Sets, Statement, Statements};
 use row_types::{
-    Bytes, Column, ColumnKind, Columns, Digest, DigestKind, Edge, Key, R, Row, Rows, Schema,
-    SchemaList, Span, Tables, Value,
+    Bytes, Column, ColumnKind, Columns, Digest, DigestKind, Edge, Key, R, Row, Schema, SchemaList,
+    Span, Value,
 };
+use statement_log::{Entry, Log, Origin};
 use std::alloc::Global;
 use std::test::Fail;
 
@@ -100,6 +104,15 @@ fn head(alloc: Global) -> R<Vec<u8>> {
     Ok(out)
 }
 
+// a log of one entry
+fn log_of(alloc: Global, origin: Origin, statements: Statements) -> R<Log> {
+    let mut log = Log::new(alloc);
+    match log.append(Entry { origin, statements }) {
+        Ok(_) => Ok(log),
+        Err((_, memory)) => Err(memory),
+    }
+}
+
 fn log(alloc: Global) -> R<Vec<u8>> {
     let mut statements = Statements::new(alloc);
     statements.push(Statement::ClearChecks { table: 0 })?;
@@ -109,11 +122,7 @@ fn log(alloc: Global) -> R<Vec<u8>> {
         kind: DigestKind::Md5,
         master: digest(12, 171),
     })?;
-    let mut log = Entries::new(alloc);
-    log.push(Entry {
-        origin: Origin::Checksum,
-        statements,
-    })?;
+    let log = log_of(alloc, Origin::Checksum, statements)?;
     let mut out = Vec::new(alloc);
     push_log(alloc, &mut out, &schemas(alloc)?, &log)?;
     Ok(out)
@@ -169,11 +178,7 @@ fn session_log(alloc: Global) -> R<Vec<u8>> {
         table: 0,
         cond: Some(id_is_1()),
     })?;
-    let mut log = Entries::new(alloc);
-    log.push(Entry {
-        origin: Origin::Session(1),
-        statements,
-    })?;
+    let log = log_of(alloc, Origin::Session(1), statements)?;
     let mut out = Vec::new(alloc);
     push_log(alloc, &mut out, &client_schemas(alloc)?, &log)?;
     Ok(out)
@@ -198,21 +203,63 @@ fn verdicts(alloc: Global) -> R<(Vec<u8>, bool)> {
     Ok((out, differs))
 }
 
-fn one_table(alloc: Global, value: Value) -> R<Tables> {
+fn one_row(alloc: Global, value: i64) -> R<Row>
+    ensures { IfOk result (λ row. row ≡ Int value ∷ []) }
+{
     let mut row = Row::new(alloc);
-    row.push(value)?;
-    let mut rows = Rows::new(alloc);
-    rows.push(row)?;
-    let mut tables = Tables::new(alloc);
-    tables.push(rows)?;
+    row.push(Value::Int(value))?;
+    Ok(row)
+}
+
+// one table, with a row or without
+fn tables(alloc: Global, value: Option<i64>) -> R<Vec<Table>> {
+    let mut table = Table::new(alloc, 1);
+    if let Some(value) = value {
+        let row = one_row(alloc, value)?;
+        if let Err((_, memory)) = table.put(row) {
+            return Err(memory);
+        }
+    }
+    let mut tables = Vec::new(alloc);
+    tables.push(table)?;
     Ok(tables)
 }
 
-fn equal(alloc: Global, ours: Value, theirs: Value) -> R<Vec<u8>> {
+fn equal(alloc: Global, ours: Option<i64>, theirs: Option<i64>) -> R<Vec<u8>> {
     let mut out = Vec::new(alloc);
-    let source = one_table(alloc, ours)?;
-    let own = one_table(alloc, theirs)?;
-    push_equal(alloc, &mut out, &schemas(alloc)?, 2, &source, &own)?;
+    let schemas = schemas(alloc)?;
+    let (source, own) = (tables(alloc, ours)?, tables(alloc, theirs)?);
+    push_each_equal_line(
+        alloc,
+        &mut out,
+        &schemas,
+        2,
+        source.as_slice(),
+        own.as_slice(),
+    )?;
+    Ok(out)
+}
+
+// an entry of a repair tool
+fn repair_log(alloc: Global) -> R<Vec<u8>> {
+    let origin = Origin::Sync {
+        replica: 2,
+        table: 0,
+        span: span(alloc)?,
+    };
+    let log = log_of(alloc, origin, Statements::new(alloc))?;
+    let mut out = Vec::new(alloc);
+    push_log(alloc, &mut out, &schemas(alloc)?, &log)?;
+    Ok(out)
+}
+
+// an item of a local session, and one that applied an entry of one statement
+fn history(alloc: Global, origin: Origin) -> R<Vec<u8>> {
+    let mut statements = Statements::new(alloc);
+    statements.push(Statement::ClearChecks { table: 0 })?;
+    let log = log_of(alloc, origin, statements)?;
+    let mut out = Vec::new(alloc);
+    push_history(alloc, &mut out, &schemas(alloc)?, 3, &log)?;
     Ok(out)
 }
 
@@ -249,10 +296,30 @@ fn tables_are_written(rt: HostRuntime) -> Result<(), Fail> {
         text.as_slice()
             == b"PTC REPORT 1\nTABLE t (a BIGINT KEY, b VARCHAR(4) KEY, v INT NOT NULL, w INT)\n".as_slice()
     );
-    let text = equal(rt.alloc(), Value::Int(-5), Value::Int(-5))?;
+    Ok(())
+}
+
+#[test]
+fn tables_are_compared(rt: HostRuntime) -> Result<(), Fail> {
+    let text = equal(rt.alloc(), Some(-5), Some(-5))?;
     assert!(rt; text.as_slice() == b"EQUAL r2 t\n".as_slice());
-    let text = equal(rt.alloc(), Value::Int(-5), Value::Null)?;
+    let text = equal(rt.alloc(), Some(-5), Some(5))?;
     assert!(rt; text.as_slice() == b"UNEQUAL r2 t\n".as_slice());
+    let text = equal(rt.alloc(), Some(-5), None)?;
+    assert!(rt; text.as_slice() == b"UNEQUAL r2 t\n".as_slice());
+    Ok(())
+}
+
+#[test]
+fn each_origin_is_written(rt: HostRuntime) -> Result<(), Fail> {
+    let text = repair_log(rt.alloc())?;
+    assert!(rt;
+        text.as_slice() == b"LOG 1 y2 t FROM LOW TO AFTER (1, 'a''b')\n".as_slice()
+    );
+    let text = history(rt.alloc(), Origin::Local(4))?;
+    assert!(rt; text.as_slice() == b"HISTORY r3 local r3.l4\n  CLEARCHECKS t\n".as_slice());
+    let text = history(rt.alloc(), Origin::Applied(9))?;
+    assert!(rt; text.as_slice() == b"HISTORY r3 applied 9\n".as_slice());
     Ok(())
 }
 

@@ -10,7 +10,7 @@ ghost use Rattle.cluster_core.specs.Sessions.{is_duplicate as is_duplicate_on};
 ghost use Rattle.ptc_statement.specs.Fits.{FitsSchemas};
 
 use crate::nodes::Node;
-use history::Origin;
+use statement_log::Origin;
 use ptc_statement::{Script, ScriptLine, ScriptStep, Statement};
 use row_types::R;
 use std::alloc::Global;

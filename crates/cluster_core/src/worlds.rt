@@ -14,7 +14,7 @@ ghost use Rattle.cluster_core.specs.Turns.{IsNumbered, ItemIsNumbered, Takes, Pl
 
 use crate::actors::{Actor, ToolPhase};
 use crate::nodes::Node;
-use crate::report::{push_head, push_log, push_status, push_tables};
+use crate::report::{push_head, push_live_tables, push_log, push_status, push_tables};
 use crate::report_nodes::{
     push_each_duplicate, push_each_equal, push_each_final, push_each_history, push_each_start,
     push_each_verdict,
@@ -22,9 +22,9 @@ use crate::report_nodes::{
 use crate::schedule::{Item, Schedule};
 use crate::sessions::Session;
 use crate::workload::Workload;
-use history::{Entries, Origin};
 use ptc_statement::{Script, Statement};
 use row_types::{Bytes, DigestKind, R, Schemas, Span, Tables};
+use statement_log::{Log, Origin};
 use std::alloc::Global;
 use std::marker::Model;
 
@@ -179,7 +179,7 @@ impl World {
     {
         let schemas = &self.source.schemas().tables;
         push_log(self.alloc, out, schemas, self.source.history())?;
-        push_each_history(self.alloc, out, self.replicas.as_slice())
+        push_each_history(self.alloc, out, schemas, self.replicas.as_slice())
     }
 
     /// The VERDICT lines, and the status that they ask for.
@@ -205,7 +205,7 @@ impl World {
     {
         let schemas = &self.source.schemas().tables;
         let replicas = self.replicas.as_slice();
-        push_tables(
+        push_live_tables(
             self.alloc,
             out,
             schemas,
@@ -414,13 +414,13 @@ fn fresh_sessions(alloc: Global, mut scripts: Vec<Script>) -> R<Vec<Session>>
 }
 
 /// Applies the log's next entry whole, where there is one.
-fn apply_next(alloc: Global, log: &Entries, node: &mut Node) -> R<bool>
-    requires { AllByRecursion (IsOneFitting node.old.schemas) log.now }
-    ensures ok { IfOk result (λ moved. Takes (next_applied log.now node.old) moved node.old node.new) }
+fn apply_next(alloc: Global, log: &Log, node: &mut Node) -> R<bool>
+    requires { AllByRecursion (IsOneFitting node.old.schemas) log.now.entries }
+    ensures ok { IfOk result (λ moved. Takes (next_applied log.now.entries node.old) moved node.old node.new) }
     ensures err { OnErr result (node.new ≡ node.old) }
 {
     let applied = node.applied();
-    let Some(entry) = log.as_slice().get(applied as usize) else {
+    let Some(entry) = log.get(applied + 1) else {
         return Ok(false);
     };
     match entry.statements.as_slice() {

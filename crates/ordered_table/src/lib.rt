@@ -11,4 +11,6 @@ pub use rows_ahead::RowsAhead;
 pub use tables::Table;
 
 #[cfg(test)]
+mod map_tests;
+#[cfg(test)]
 mod tests;

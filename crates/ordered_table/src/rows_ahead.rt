@@ -1,4 +1,4 @@
-ghost use Rattle.std.specs.Prelude.{◌≡◌, List, length, drop, slice_get, option_copied};
+ghost use Rattle.std.specs.Prelude.{◌≡◌, ◌<◌, ◌^◌, ◌↔◌, IsTrue, List, [], length, drop, slice_get, option_copied};
 
 use row_types::Row;
 use std::marker::Model;
@@ -20,6 +20,21 @@ impl<'a> Model for RowsAhead<'a> {
 }
 
 impl<'a> RowsAhead<'a> {
+    /// How many rows are still to come.
+    pub fn len(&self) -> usize
+        ensures value { result ≡ length self.now }
+        ensures bound { result < 2 ^ 63 }
+    {
+        self.rows.len()
+    }
+
+    /// Whether no row is still to come.
+    pub fn is_empty(&self) -> bool
+        ensures { IsTrue result ↔ (self.now ≡ []) }
+    {
+        self.rows.is_empty()
+    }
+
     /// The next row, which is then no longer to come.
     pub fn next_row(&mut self) -> Option<&'a Row>
         ensures row { option_copied result ≡ slice_get self.old 0 }

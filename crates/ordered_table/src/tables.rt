@@ -3,7 +3,7 @@ ghost use Rattle.ordered_table.specs.KeyRows.{HasKey, AreOrdered, row_at, put_ro
 ghost use Rattle.ordered_table.specs.TableView.{TableView};
 
 use crate::places::{Place, has_no_null, key_of, key_values, place_of, rows_before, rows_past};
-use crate::row_lists::{copies, exchange, item_at, put_in};
+use crate::row_lists::{copies, exchange, item_at, put_in, same_rows};
 use crate::rows_ahead::RowsAhead;
 use row_types::{Edge, Key, Memory, R, Row, Rows, Span, Value};
 use std::alloc::Global;
@@ -101,7 +101,14 @@ impl Table {
     pub fn get(&self, key: &Key) -> Option<&Row>
         ensures { option_copied result ≡ row_at self.now.key_len key.now self.now.rows }
     {
-        match place_of(self.rows.as_slice(), self.key_len, key.as_slice()) {
+        self.get_at(key.as_slice())
+    }
+
+    /// The row at the key of these values, if there is one.
+    pub fn get_at(&self, key: &[Value]) -> Option<&Row>
+        ensures { option_copied result ≡ row_at self.now.key_len key.now self.now.rows }
+    {
+        match place_of(self.rows.as_slice(), self.key_len, key) {
             Place::Taken(index) => Some(&self.rows[index]),
             Place::Free(_) => None,
         }
@@ -152,6 +159,22 @@ impl Table {
         RowsAhead {
             rows: rows_past(self.before(&span.hi), self.key_len, &span.lo),
         }
+    }
+
+    /// All rows, to be gone over by rising key.
+    pub fn all(&self) -> RowsAhead<'_>
+        ensures { result ≡ self.now.rows }
+    {
+        RowsAhead {
+            rows: self.rows.as_slice(),
+        }
+    }
+
+    /// Whether another table has the same rows.
+    pub fn same_rows(&self, other: &Table) -> bool
+        ensures { IsTrue result ↔ (self.now.rows ≡ other.now.rows) }
+    {
+        same_rows(self.rows.as_slice(), other.rows.as_slice())
     }
 
     /// The rows whose keys are past the edge.

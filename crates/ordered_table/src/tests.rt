@@ -114,6 +114,7 @@ fn rows_are_put_and_taken_away(rt: HostRuntime) {
     let fifteen = key(alloc, 15).expect(&rt, "memory");
     let sixteen = key(alloc, 16).expect(&rt, "memory");
     assert!(rt; table.len() == 3 && is_row(table.get(&fifteen), 15, 7));
+    assert!(rt; is_row(table.get_at(fifteen.as_slice()), 15, 7) && table.get_at(&[]).is_none());
     assert!(rt; table.get(&sixteen).is_none());
     let new = row(alloc, 15, 8).expect(&rt, "memory");
     let replaced = put(&mut table, new).expect(&rt, "memory");
@@ -124,6 +125,21 @@ fn rows_are_put_and_taken_away(rt: HostRuntime) {
     assert!(rt; is_row(gone.as_ref(), 15, 8));
     assert!(rt; table.get(&fifteen).is_none() && table.len() == 2);
     assert!(rt; have_ids(table.each(&Span::whole()), &[10, 20]));
+    assert!(rt; table.all().len() == 2 && !table.all().is_empty());
+}
+
+/// Tables have the same rows where each row has the same values.
+#[test]
+fn tables_are_compared(rt: HostRuntime) {
+    let alloc = rt.alloc();
+    let table = three(alloc).expect(&rt, "memory");
+    let mut other = three(alloc).expect(&rt, "memory");
+    assert!(rt; table.same_rows(&other) && other.same_rows(&table));
+    let changed = row(alloc, 15, 8).expect(&rt, "memory");
+    put(&mut other, changed).expect(&rt, "memory");
+    assert!(rt; !table.same_rows(&other));
+    other.remove(&key(alloc, 15).expect(&rt, "memory"));
+    assert!(rt; !table.same_rows(&other) && !table.same_rows(&Table::new(alloc, 1)));
 }
 
 /// The keys on both sides of each edge, and the first to the fourth past it.

@@ -1,5 +1,5 @@
 -- The rows of a span, and the checksum of rows.
-use Rattle.std.specs.Prelude.{ℕ, ◌≤◌, ◌+◌, List, [], ◌∷◌, length, take, filter, replicate, bit_xor}
+use Rattle.std.specs.Prelude.{ℕ, ◌+◌, List, [], ◌∷◌, length, take, filter, replicate, bit_xor}
 use Rattle.md5.specs.Md5.{md5}
 use Rattle.sha1.specs.Sha1.{sha1}
 use Rattle.hex.specs.Hex.{encode_lower}
@@ -11,7 +11,7 @@ use Rattle.row_types.specs.declared.edges.Span.{Span}
 use Rattle.row_types.specs.declared.table_schema.Schema.{Schema}
 use Rattle.row_types.specs.Order.{has}
 use Rattle.row_types.specs.Fit.{key_of}
-use Rattle.row_digest.specs.Encoding.{encoded, IsEncodable}
+use Rattle.row_digest.specs.Encoding.{encoded}
 
 -- the rows whose key lies in the span
 abbrev pub rows_in : Schema → Span → List (List Value) → List (List Value)
@@ -49,8 +49,3 @@ digest_of kind rows = added_rows kind rows no_rows
 abbrev pub crc_text : DigestKind → Digest → List ℕ
 crc_text Md5 digest = encode_lower (take 16 digest.xor)
 crc_text Sha1 digest = encode_lower digest.xor
-
--- a row that has the values of the key, and an encoding
-pub record IsCheckable (schema : Schema) (row : List Value) : Type 0 where
-  pub key : schema.key_len ≤ length row
-  pub encodable : IsEncodable row

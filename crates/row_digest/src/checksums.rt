@@ -1,11 +1,10 @@
-ghost use Rattle.std.specs.Prelude.{◌≡◌, ◌<◌, ◌≤◌, ◌+◌, ◌^◌, length, IfOk, OnOk, OnErr};
-ghost use Rattle.std.specs.List.{AllByRecursion};
+ghost use Rattle.std.specs.Prelude.{◌≡◌, ◌<◌, ◌≤◌, ◌+◌, ◌^◌, length, OnOk, OnErr};
 ghost use Rattle.row_digest.specs.Encoding.{IsEncodable};
-ghost use Rattle.row_digest.specs.Digest.{added, digest_of, rows_in, xored, IsCheckable};
+ghost use Rattle.row_digest.specs.Digest.{added, xored};
 
 use crate::encoding::encode;
 use md5::{Digest as Hasher, Md5};
-use row_types::{Digest, DigestKind, R, Row, Schema, Span};
+use row_types::{Digest, DigestKind, R, Row};
 use sha1::Sha1;
 use std::alloc::Global;
 
@@ -23,8 +22,9 @@ pub fn add(alloc: Global, digest: &mut Digest, kind: DigestKind, row: &Row) -> R
     add_with(&mut buffer, digest, kind, row)
 }
 
-/// The same, with a buffer for the row's encoding, whose bytes are of no account.
-fn add_with(buffer: &mut Vec<u8>, digest: &mut Digest, kind: DigestKind, row: &Row) -> R<()>
+/// The same, with a buffer for the row's encoding, so that rows added one after the other share its
+/// memory. What it holds before and after is of no account.
+pub fn add_with(buffer: &mut Vec<u8>, digest: &mut Digest, kind: DigestKind, row: &Row) -> R<()>
     requires counts { digest.old.count + 1 < 2 ^ 64 }
     requires encodable { IsEncodable row.now }
     ensures ok { OnOk result (digest.new ≡ added kind row.now digest.old) }
@@ -48,29 +48,4 @@ fn combine(bytes: &mut [u8], hash: &[u8])
     for i in 0..hash.len() {
         bytes[i] ^= hash[i];
     }
-}
-
-/// The checksum of the rows whose key lies in the span. Each row is to have the values of the key, and
-/// its texts fewer than 4,294,967,296 bytes.
-pub fn digest_rows(
-    alloc: Global,
-    kind: DigestKind,
-    schema: &Schema,
-    span: &Span,
-    rows: &[Row],
-) -> R<Digest>
-    requires { AllByRecursion (IsCheckable schema.now) rows.now }
-    ensures { IfOk result (λ digest. digest ≡ digest_of kind (rows_in schema.now span.now rows.now)) }
-{
-    let mut buffer = Vec::new(alloc);
-    let mut digest = Digest {
-        count: 0,
-        xor: [0; 20],
-    };
-    for row in rows {
-        if span.has_row(row, schema.key_len) {
-            add_with(&mut buffer, &mut digest, kind, row)?;
-        }
-    }
-    Ok(digest)
 }

@@ -8,7 +8,7 @@ pub mod digest_laws;
 pub mod encoding;
 pub mod encoding_laws;
 
-pub use checksums::{add, digest_rows};
+pub use checksums::{add, add_with};
 pub use crc_digits::crc_text;
 pub use digest_laws::rows_are_added_one_by_one;
 pub use encoding::encode;

@@ -2,7 +2,7 @@ ghost use Rattle.std.specs.Prelude.{◌≡◌, pos, negsuc, [], ◌∷◌, IfOk}
 ghost use Rattle.row_types.specs.declared.values.Value.TheVariants.{Null, Int, Text};
 
 use super::*;
-use row_types::{Bytes, Columns, Digest, DigestKind, Edge, Key, R, Row, Rows, Schema, Span, Value};
+use row_types::{Bytes, Digest, DigestKind, R, Row, Value};
 use std::alloc::Global;
 use std::test::Fail;
 
@@ -41,32 +41,19 @@ fn third_row(alloc: Global) -> R<Row>
     Ok(row)
 }
 
-// A schema with a key of one column.
-fn schema(alloc: Global) -> Schema
-    ensures { result ≡ record { name = []; columns = []; key_len = 1 } }
-{
-    Schema {
-        name: Bytes::new(alloc),
-        columns: Columns::new(alloc),
-        key_len: 1,
+fn no_rows() -> Digest {
+    Digest {
+        count: 0,
+        xor: [0; 20],
     }
 }
 
-fn digest_of_both(alloc: Global, kind: DigestKind, span: &Span) -> R<Digest> {
-    let mut rows = Rows::new(alloc);
-    rows.push(first_row(alloc)?)?;
-    rows.push(second_row(alloc)?)?;
-    digest_rows(alloc, kind, &schema(alloc), span, rows.as_slice())
-}
-
-// The keys above 0.
-fn above_zero(alloc: Global) -> R<Span> {
-    let mut key = Key::new(alloc);
-    key.push(Value::Int(0))?;
-    Ok(Span {
-        lo: Edge::After(key),
-        hi: Edge::High,
-    })
+fn digest_of_both(alloc: Global, kind: DigestKind) -> R<Digest> {
+    let mut buffer = Vec::new(alloc);
+    let mut digest = no_rows();
+    add_with(&mut buffer, &mut digest, kind, &first_row(alloc)?)?;
+    add_with(&mut buffer, &mut digest, kind, &second_row(alloc)?)?;
+    Ok(digest)
 }
 
 // The expected digests of the tests below are those of Python's hashlib.
@@ -81,10 +68,7 @@ fn one_row(rt: HostRuntime) -> Result<(), Fail> {
         (DigestKind::Md5, "cf572480b7ea482d682a2e2146b3e1b800000000"),
         (DigestKind::Sha1, "4f0bd81d936a9d38ee453cb006723eb8f9f61703"),
     ] {
-        let mut digest = Digest {
-            count: 0,
-            xor: [0; 20],
-        };
+        let mut digest = no_rows();
         add(rt.alloc(), &mut digest, kind, &row)?;
         assert_eq!(rt; digest.count, 1);
         let xor = hex::encode(rt.alloc(), digest.xor.as_slice())?;
@@ -118,27 +102,13 @@ fn two_rows_and_none(rt: HostRuntime) -> Result<(), Fail> {
             "0000000000000000000000000000000000000000",
         ),
     ] {
-        let digest = digest_of_both(rt.alloc(), kind, &Span::whole())?;
+        let digest = digest_of_both(rt.alloc(), kind)?;
         assert_eq!(rt; digest.count, 2);
         let text = crc_text(rt.alloc(), &digest, kind)?;
         assert_eq!(rt; text.as_slice(), want.as_bytes());
-        let none = digest_rows(rt.alloc(), kind, &schema(rt.alloc()), &Span::whole(), &[])?;
-        assert_eq!(rt; none.count, 0);
-        let text = crc_text(rt.alloc(), &none, kind)?;
+        let text = crc_text(rt.alloc(), &no_rows(), kind)?;
         assert_eq!(rt; text.as_slice(), zeros.as_bytes());
     }
-    Ok(())
-}
-
-#[test]
-fn rows_of_a_span_count(rt: HostRuntime) -> Result<(), Fail> {
-    let digest = digest_of_both(rt.alloc(), DigestKind::Md5, &above_zero(rt.alloc())?)?;
-    assert_eq!(rt; digest.count, 1);
-    let text = crc_text(rt.alloc(), &digest, DigestKind::Md5)?;
-    assert_eq!(rt;
-        text.as_slice(),
-        b"cf572480b7ea482d682a2e2146b3e1b8".as_slice()
-    );
     Ok(())
 }
 
@@ -148,10 +118,7 @@ fn rows_are_added_one_after_the_other(rt: HostRuntime) -> Result<(), Fail> {
         (DigestKind::Md5, "efbe451bbe20d173d920bb6637a52b5600000000"),
         (DigestKind::Sha1, "82a476e54890bf72379738f9f8014cce8d59efcb"),
     ] {
-        let mut digest = Digest {
-            count: 0,
-            xor: [0; 20],
-        };
+        let mut digest = no_rows();
         add(rt.alloc(), &mut digest, kind, &third_row(rt.alloc())?)?;
         add(rt.alloc(), &mut digest, kind, &second_row(rt.alloc())?)?;
         add(rt.alloc(), &mut digest, kind, &first_row(rt.alloc())?)?;

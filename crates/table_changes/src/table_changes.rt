@@ -75,8 +75,7 @@ fn insertion(alloc: Global, schema: &Schema, row: &Row, table: &Table) -> R<Tabl
     requires sound { IsSound schema.now table.now.key_len table.now.rows }
     ensures { IfOk result (λ change. (number : ℕ) → IsDue table.now.key_len schema.now (Insert number row.now) table.now.rows change) }
 {
-    let key = Key::from_values(alloc, schema.key_values(row))?;
-    match table.get(&key) {
+    match table.get_at(schema.key_values(row)) {
         None => one_put(alloc, row, 1),
         Some(_) => Ok(nothing(alloc)),
     }
@@ -88,8 +87,7 @@ fn replacement(alloc: Global, schema: &Schema, row: &Row, table: &Table) -> R<Ta
     requires sound { IsSound schema.now table.now.key_len table.now.rows }
     ensures { IfOk result (λ change. (number : ℕ) → IsDue table.now.key_len schema.now (Replace number row.now) table.now.rows change) }
 {
-    let key = Key::from_values(alloc, schema.key_values(row))?;
-    match table.get(&key) {
+    match table.get_at(schema.key_values(row)) {
         None => one_put(alloc, row, 1),
         Some(_) => one_put(alloc, row, 0),
     }

@@ -4,4 +4,4 @@ use Rattle.cluster_core.proofs.report.push_history.Given as goal
 
 abbrev pub invariant-loop-item : goal.invariant-loop-item
 invariant-loop-item l =
-    l.out.items ++ history_lines l.replica (drop l.item-index l.item-items) ≡ l.initial.out.items ++ history_lines l.replica l.item-items
+    l.out.items ++ history_lines l.schemas l.replica (drop l.item-index l.item-items) ≡ l.initial.out.items ++ history_lines l.schemas l.replica l.item-items

@@ -4,7 +4,7 @@ use Rattle.cluster_core.proofs.report_nodes.push_each_equal.Given as goal
 
 abbrev pub invariant-loop-node : goal.invariant-loop-node
 invariant-loop-node l = record {
-  text : l.out.items ++ each_replica (equals_of l.schemas l.source) l.replica l.rest ≡ l.fn.out.items ++ each_replica (equals_of l.schemas l.source) 1 l.replicas;
+  text : l.out.items ++ each_replica (equals_of l.schemas l.source.tables) l.replica l.rest ≡ l.fn.out.items ++ each_replica (equals_of l.schemas l.source.tables) 1 l.replicas;
   few : l.replica + length l.rest < 2 ^ 32;
 }
 

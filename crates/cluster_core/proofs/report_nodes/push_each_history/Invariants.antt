@@ -5,7 +5,7 @@ use Rattle.cluster_core.proofs.report_nodes.push_each_history.Given as goal
 
 abbrev pub invariant-loop-node : goal.invariant-loop-node
 invariant-loop-node l = record {
-  text : l.out.items ++ each_replica (λ replica (node : NodeView). history_lines replica node.history) l.replica l.rest ≡ l.fn.out.items ++ each_replica (λ replica (node : NodeView). history_lines replica node.history) 1 l.replicas;
+  text : l.out.items ++ each_replica (λ replica (node : NodeView). history_lines l.schemas replica node.history) l.replica l.rest ≡ l.fn.out.items ++ each_replica (λ replica (node : NodeView). history_lines l.schemas replica node.history) 1 l.replicas;
   few : l.replica + length l.rest < 2 ^ 32;
 }
 

@@ -9,13 +9,13 @@ pub returns-in-None : goal.returns-in-None
 returns-in-None c =
     IfOk-weaker c.one_put.result _ _
     (due_when c.args.table.now.key_len c.args.schema.now (λ (number : ℕ). Insert number c.args.row.now) c.args.table.now.rows _
-    (insertion_new c.args.table.now.key_len c.args.schema.now c.in_ok-key.key c.args.row.now c.args.table.now.rows c.requires.sound c.requires.row
-    (c.in_ok-key.ensures ∙ c.key_values.ensures) (sym (ap option_copied c.in-None.is) ∙ c.get.ensures)))
+    (insertion_new c.args.table.now.key_len c.args.schema.now c.key_values.result.now c.args.row.now c.args.table.now.rows c.requires.sound c.requires.row
+    c.key_values.ensures (sym (ap option_copied c.in-None.is) ∙ c.get_at.ensures)))
     c.one_put.ensures
 
-pub returns : goal.returns
-returns c =
+pub returns-in-Some : goal.returns-in-Some
+returns-in-Some c =
     due_when c.args.table.now.key_len c.args.schema.now (λ (number : ℕ). Insert number c.args.row.now) c.args.table.now.rows _
-    (insertion_old c.args.table.now.key_len c.args.schema.now c.in_ok-key.key c.args.row.now c.in-Some.field-0.now c.args.table.now.rows c.requires.sound c.requires.row
-    (c.in_ok-key.ensures ∙ c.key_values.ensures) (sym (ap option_copied c.in-Some.is) ∙ c.get.ensures))
+    (insertion_old c.args.table.now.key_len c.args.schema.now c.key_values.result.now c.args.row.now c.in-Some.field-0.now c.args.table.now.rows c.requires.sound c.requires.row
+    c.key_values.ensures (sym (ap option_copied c.in-Some.is) ∙ c.get_at.ensures))
     c.nothing.result c.nothing.ensures

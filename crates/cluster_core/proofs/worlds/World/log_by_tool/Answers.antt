@@ -1,5 +1,5 @@
 use Rattle.std.proofs.Common.{◌≡◌, ap}
-use Rattle.history.specs.declared.entries.Origin.TheVariants.{Checksum}
+use Rattle.statement_log.specs.declared.origins.Origin.TheVariants.{Checksum}
 use Rattle.cluster_core.specs.Node.{NodeView}
 use Rattle.cluster_core.proofs.KeptLemmas.{log_more, fits_all}
 use Rattle.cluster_core.proofs.worlds.World.log_by_tool.Goals as goal
