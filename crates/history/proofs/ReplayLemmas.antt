@@ -11,7 +11,7 @@ use Rattle.row_types.specs.declared.edges.Span.{Span}
 use Rattle.row_types.specs.declared.digests.DigestKind.{DigestKind}
 use Rattle.ptc_statement.specs.declared.statements.Statement.{Statement}
 use Rattle.ptc_statement.specs.declared.statements.Statement.TheVariants.{Check}
-use Rattle.history.specs.declared.entries.Entry.{Entry}
+use Rattle.statement_log.specs.declared.entries.Entry.{Entry}
 use Rattle.history.specs.Replay.{Replayed, table_rows, tables_after, after_statement, after_entry, replay_from, fold, position_of, applied_from, applied_of, after_statements, applying, source_at, up_to_applied, applies, FollowsFrom, Follows}
 use Rattle.history.specs.Headline.{IsTrueMaster, MastersAreTrueFrom, MastersAreTrue}
 

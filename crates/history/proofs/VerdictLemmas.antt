@@ -9,7 +9,7 @@ use Rattle.row_types.specs.declared.edges.Span.{Span}
 use Rattle.row_types.specs.declared.table_schema.Schema.{Schema}
 use Rattle.ptc_statement.specs.declared.statements.Statement.{Statement}
 use Rattle.ptc_statement.specs.declared.statements.Statement.TheVariants.{Insert, Replace, Delete, Update, LockRead, Check, SetMaster, ClearChecks}
-use Rattle.history.specs.declared.entries.Entry.{Entry}
+use Rattle.statement_log.specs.declared.entries.Entry.{Entry}
 use Rattle.checksum_table.specs.declared.check_rows.CheckRow.{CheckRow}
 use Rattle.checksum_table.specs.declared.check_rows.Verdict.TheVariants.{Same, Differ, Pending}
 use Rattle.checksum_table.specs.Checks.{check_at, mastered, digest_eq, verdict_against, verdict_of_row}

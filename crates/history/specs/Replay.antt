@@ -8,9 +8,9 @@ use Rattle.row_types.specs.declared.table_schema.Schema.{Schema}
 use Rattle.ptc_statement.specs.declared.statements.Statement.{Statement}
 use Rattle.ptc_statement.specs.declared.statements.Statement.TheVariants.{Insert, Replace, Delete, Update, LockRead, Check, SetMaster, ClearChecks}
 use Rattle.ptc_statement.specs.Effect.{table_of, rows_after}
-use Rattle.history.specs.declared.entries.Origin.{Origin}
-use Rattle.history.specs.declared.entries.Origin.TheVariants.{Session, Checksum, Applied}
-use Rattle.history.specs.declared.entries.Entry.{Entry}
+use Rattle.statement_log.specs.declared.origins.Origin.{Origin}
+use Rattle.statement_log.specs.declared.origins.Origin.TheVariants.{Session, Checksum, Sync, Local, Applied}
+use Rattle.statement_log.specs.declared.entries.Entry.{Entry}
 use Rattle.checksum_table.specs.declared.check_rows.CheckEntry.{CheckEntry}
 use Rattle.checksum_table.specs.Checks.{with_check, with_master, without_table}
 use Rattle.row_digest.specs.Digest.{rows_in, digest_of}
@@ -62,6 +62,8 @@ after_statements schemas position (statement ∷ statements) here =
 abbrev pub position_of : ℕ → Origin → ℕ
 position_of number (Session session) = number
 position_of number Checksum = number
+position_of number (Sync replica table span) = number
+position_of number (Local session) = number
 position_of number (Applied entry) = entry
 
 abbrev pub after_entry : List Schema → ℕ → Entry → Replayed → Replayed
@@ -83,6 +85,8 @@ source_at schemas start log position = fold schemas start (take position log)
 abbrev pub applies : ℕ → Origin → Bool
 applies position (Session session) = false
 applies position Checksum = false
+applies position (Sync replica table span) = false
+applies position (Local session) = false
 applies position (Applied entry) = entry == position
 
 -- a history's items up to and with the one that applies the source's entry of this number

@@ -1,7 +1,7 @@
 ghost use Rattle.std.specs.Prelude.{List};
 ghost use Rattle.row_types.specs.declared.values.Value.{Value};
 ghost use Rattle.row_types.specs.declared.table_schema.Schema.{Schema};
-ghost use Rattle.history.specs.declared.entries.Entry.{Entry};
+ghost use Rattle.statement_log.specs.declared.entries.Entry.{Entry};
 ghost use Rattle.history.specs.Replay.{Follows};
 ghost use Rattle.history.specs.Headline.{MastersAreTrue, EachVerdictCompares};
 

@@ -1,0 +1,16 @@
+//! Logs of transactions: who wrote an entry and its statements, entries by their position, and room
+//! that is promised to the next one.
+#![tactic(auto)]
+
+pub mod entries;
+pub mod log_laws;
+pub mod logs;
+pub mod origins;
+
+pub use entries::Entry;
+pub use log_laws::{an_appended_entry_is_the_last, positions_run_from_one};
+pub use logs::Log;
+pub use origins::Origin;
+
+#[cfg(test)]
+mod tests;
