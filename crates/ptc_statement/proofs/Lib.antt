@@ -3,5 +3,6 @@ pub mod FitLemmas
 pub mod KeepLemmas
 pub mod KeyLemmas
 pub mod KindLemmas
+pub mod NumberLemmas
 pub mod ReachLemmas
 pub mod TableLemmas
