@@ -1,14 +1,12 @@
 -- A comparison of a column of numbers with a number fits, and so does a number for such a column.
-use Rattle.std.proofs.Common.{◌≡◌, ◌∙◌, ◌≤◌, ◌+◌, ℕ, Bool, true, false, IsTrue, max, ap, sym, refl, subst, arith, lit≤}
+use Rattle.std.proofs.Common.{◌≡◌, ◌∙◌, ◌+◌, ℕ, Bool, true, false, max, ap, sym, refl, arith}
 use Rattle.std.specs.Prelude.{◌&&◌, ◌||◌}
 use Rattle.row_types.specs.declared.values.Value.{Value}
 use Rattle.row_types.specs.declared.table_schema.Schema.{Schema}
 use Rattle.ptc_statement.specs.declared.expressions.Op.{Op}
-use Rattle.ptc_statement.specs.declared.expressions.Expr.{Expr, Expr-F, fold-Expr}
 use Rattle.ptc_statement.specs.declared.expressions.Expr.TheOpen.{Lit as LitLayer, Cell as CellLayer}
 use Rattle.ptc_statement.specs.declared.expressions.Expr.TheFolds.{fold-roll-Expr}
 use Rattle.ptc_statement.specs.declared.expressions.Expr.TheVariants.{Lit, Cell, rolls-Lit, rolls-Cell}
-use Rattle.ptc_statement.specs.declared.conditions.Cond.{Cond, Cond-F, fold-Cond}
 use Rattle.ptc_statement.specs.declared.conditions.Cond.TheOpen.{Compare as CompareLayer}
 use Rattle.ptc_statement.specs.declared.conditions.Cond.TheFolds.{fold-roll-Cond}
 use Rattle.ptc_statement.specs.declared.conditions.Cond.TheVariants.{Compare, rolls-Compare}

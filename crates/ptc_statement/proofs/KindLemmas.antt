@@ -9,9 +9,8 @@ use Rattle.row_types.specs.declared.table_schema.ColumnKind.TheVariants.{Int as 
 use Rattle.row_types.specs.declared.table_schema.Column.{Column}
 use Rattle.row_types.specs.declared.table_schema.Schema.{Schema}
 use Rattle.row_types.specs.Fit.{NumberFits, TextFits, ValueFits, ValuesFit, RowFits}
-use Rattle.ptc_statement.specs.declared.expressions.Expr.{Expr, Expr-F, fold-Expr}
+use Rattle.ptc_statement.specs.declared.expressions.Expr.{Expr, Expr-F}
 use Rattle.ptc_statement.specs.declared.expressions.Expr.TheOpen.{Lit, Cell, Neg, Add, Sub, Mul}
-use Rattle.ptc_statement.specs.declared.expressions.Expr.TheViews.{roll-Expr}
 use Rattle.ptc_statement.specs.declared.expressions.Expr.TheFolds.{ind-Expr, map-Expr, fold-roll-Expr}
 use Rattle.ptc_statement.specs.Meaning.{value_of, value_at, calculated, negated}
 use Rattle.ptc_statement.specs.Fits.{is_of_numbers, is_of_texts, column_is, value_is_number, value_is_text, is_number_at, is_number, is_text_at, is_text, is_of_kind}

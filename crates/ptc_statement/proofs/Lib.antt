@@ -1,8 +1,8 @@
-pub mod ChangeLemmas
+pub mod ActLemmas
 pub mod FitLemmas
+pub mod KeepLemmas
+pub mod KeyLemmas
 pub mod KindLemmas
-pub mod LawLemmas
+pub mod NumberLemmas
 pub mod ReachLemmas
-pub mod ReplaceLemmas
 pub mod TableLemmas
-pub mod TestLemmas

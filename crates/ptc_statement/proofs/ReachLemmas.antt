@@ -1,29 +1,28 @@
 -- A row whose key lies outside the keys that a condition leaves never meets the condition.
 use Rattle.std.proofs.Common.{◌≡◌, ◌∙◌, ◌==◌, ℕ, Bool, true, false, cond, Option, Some, None, List, [], ◌∷◌, take, refl, ap, sym, subst, arith}
 use Rattle.std.specs.Prelude.{◌&&◌, slice_index_or}
-use Rattle.std.specs.Ordering.{is_eq, is_ne, is_lt, is_le, is_gt, is_ge, ordering_reverse, ordering_then}
+use Rattle.std.specs.Ordering.{is_eq, is_lt, is_le, is_gt, is_ge, ordering_reverse, ordering_then}
 use Rattle.std.specs.declared.cmp.Ordering.{Ordering}
 use Rattle.std.specs.declared.cmp.Ordering.TheVariants.{Less, Equal, Greater}
 use Rattle.row_types.specs.declared.values.Value.{Value}
 use Rattle.row_types.specs.declared.values.Value.TheVariants.{Null, Int, Text}
 use Rattle.row_types.specs.declared.edges.Span.{Span}
 use Rattle.row_types.specs.declared.table_schema.Schema.{Schema}
-use Rattle.row_types.specs.Order.{value_cmp, key_cmp, has, all_keys, meeting}
+use Rattle.row_types.specs.Order.{value_cmp, key_cmp, has, all_keys}
 use Rattle.row_types.specs.Fit.{key_of}
 use Rattle.row_types.proofs.OrderLemmas.{equal_last, values_total, keys_total}
 use Rattle.row_types.proofs.SpanLemmas.{meeting_has}
 use Rattle.ptc_statement.specs.declared.expressions.Op.{Op}
 use Rattle.ptc_statement.specs.declared.expressions.Op.TheVariants.{Eq, Ne, Lt, Le, Gt, Ge}
-use Rattle.ptc_statement.specs.declared.expressions.Expr.{Expr, Expr-F, fold-Expr}
+use Rattle.ptc_statement.specs.declared.expressions.Expr.{Expr, Expr-F}
 use Rattle.ptc_statement.specs.declared.expressions.Expr.TheOpen.{Lit, Cell, Neg, Add, Sub, Mul}
-use Rattle.ptc_statement.specs.declared.expressions.Expr.TheViews.{roll-Expr}
 use Rattle.ptc_statement.specs.declared.expressions.Expr.TheFolds.{ind-Expr, map-Expr, fold-roll-Expr}
-use Rattle.ptc_statement.specs.declared.conditions.Cond.{Cond, Cond-F, fold-Cond}
+use Rattle.ptc_statement.specs.declared.conditions.Cond.{Cond, Cond-F}
 use Rattle.ptc_statement.specs.declared.conditions.Cond.TheOpen.{Compare, KeyCompare, IsNull, Not, And, Or}
 use Rattle.ptc_statement.specs.declared.conditions.Cond.TheViews.{roll-Cond}
 use Rattle.ptc_statement.specs.declared.conditions.Cond.TheFolds.{ind-Cond, map-Cond, fold-roll-Cond}
 use Rattle.ptc_statement.specs.Meaning.{value_of, value_at, meets, compared, both, truth_at, truth_of, is_true, is_taken}
-use Rattle.ptc_statement.specs.Reach.{literal_at, literal_of, is_first_column_at, is_first_column, exchanged, keys_by, keys_of_value, keys_of_column, keys_compared, keys_at, keys_met, keys_where}
+use Rattle.ptc_statement.specs.Reach.{literal_at, literal_of, is_first_column_at, is_first_column, exchanged, keys_by, keys_of_value, keys_of_column, keys_at, keys_met, keys_where}
 
 just_at : (o p : Ordering) → p ≡ ordering_reverse o → is_eq o ≡ true → is_le p && is_le o ≡ true
 just_at Less p e met = cc

@@ -1,5 +1,5 @@
 -- The keys that a statement walks.
-use Rattle.std.specs.Prelude.{ℕ, ◌==◌, Bool, false, cond, List, [], ◌∷◌, Option, None, Some}
+use Rattle.std.specs.Prelude.{◌==◌, Bool, false, cond, List, [], ◌∷◌, Option, None, Some}
 use Rattle.row_types.specs.declared.values.Value.{Value}
 use Rattle.row_types.specs.declared.values.Value.TheVariants.{Null, Int, Text}
 use Rattle.row_types.specs.declared.edges.Edge.TheVariants.{Low, Before, After, High}

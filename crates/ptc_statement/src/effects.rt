@@ -56,13 +56,13 @@ pub fn row_left(alloc: Global, statement: &Statement, schema: &Schema, row: &Row
     match statement {
         Statement::Replace { row: new, .. } => Ok(Some(new.copy(alloc)?)),
         Statement::Delete { cond, .. } => {
-            if takes(alloc, schema, cond, row)? {
+            if takes(schema, cond, row) {
                 return Ok(None);
             }
             Ok(Some(row.copy(alloc)?))
         }
         Statement::Update { sets, cond, .. } => {
-            if takes(alloc, schema, cond, row)? {
+            if takes(schema, cond, row) {
                 return Ok(Some(row_set(alloc, schema, sets, row)?));
             }
             Ok(Some(row.copy(alloc)?))

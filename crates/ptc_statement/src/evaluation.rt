@@ -1,6 +1,8 @@
 ghost use Rattle.std.specs.Prelude.{◌≡◌, ◌+ℤ◌, ◌-ℤ◌, ◌*ℤ◌, slice_index_or, IfOk};
 ghost use Rattle.std.specs.Int.{w64, saturate_signed};
-ghost use Rattle.ptc_statement.specs.Meaning.{value_of, negated, calculated, meets, compared, opposite, both, either, null_test, truth_of, is_true, is_taken};
+ghost use Rattle.std.specs.Option.{option_copied};
+ghost use Rattle.ptc_statement.specs.Meaning.{value_of, meets, compared, opposite, both, either, null_test, truth_of, is_true, is_taken};
+ghost use Rattle.ptc_statement.specs.Numbers.{number_in, number_value, IsHeld, opposite_number, combined};
 
 use crate::conditions::Cond;
 use crate::expressions::{Expr, Op};
@@ -16,34 +18,65 @@ impl Expr {
     pub fn value(&self, alloc: Global, row: &Row) -> R<Value>
         ensures { IfOk result (λ value. value ≡ value_of row.now self.now) }
     {
+        match self.held(row) {
+            Some(value) => value.copy(alloc),
+            None => Ok(self.calculated(row)),
+        }
+    }
+
+    /// The value where the expression is a literal or the row has the column, so that it need not be
+    /// copied.
+    #[tactic(auto, using(crate::proofs::NumberLemmas::negated_is_number, crate::proofs::NumberLemmas::calculated_is_number))]
+    fn held<'a>(&'a self, row: &'a Row) -> Option<&'a Value>
+        ensures { IsHeld row.now self.now (option_copied result) }
+    {
         match self {
-            Expr::Lit(value) => value.copy(alloc),
-            Expr::Cell(column) => cell(alloc, row, *column),
-            Expr::Neg(operand) => Ok(negative(operand.get().value(alloc, row)?)),
-            Expr::Add(left, right) => Ok(sum(
-                left.get().value(alloc, row)?,
-                right.get().value(alloc, row)?,
-            )),
-            Expr::Sub(left, right) => Ok(difference(
-                left.get().value(alloc, row)?,
-                right.get().value(alloc, row)?,
-            )),
-            Expr::Mul(left, right) => Ok(product(
-                left.get().value(alloc, row)?,
-                right.get().value(alloc, row)?,
-            )),
+            Expr::Lit(value) => Some(value),
+            Expr::Cell(column) => row.as_slice().get(*column as usize),
+            Expr::Neg(_) | Expr::Add(_, _) | Expr::Sub(_, _) | Expr::Mul(_, _) => None,
+        }
+    }
+
+    /// The number over a row as a value, which takes no memory.
+    fn calculated(&self, row: &Row) -> Value
+        ensures { result ≡ number_value (number_in (value_of row.now self.now)) }
+    {
+        match self.number(row) {
+            None => Value::Null,
+            Some(number) => Value::Int(number),
+        }
+    }
+
+    /// The number over a row, none for NULL and for texts.
+    #[tactic(auto, using(crate::proofs::NumberLemmas::number_of_negated, crate::proofs::NumberLemmas::number_of_calculated))]
+    fn number(&self, row: &Row) -> Option<i64>
+        ensures { result ≡ number_in (value_of row.now self.now) }
+    {
+        match self {
+            Expr::Lit(value) => number_of(value),
+            Expr::Cell(column) => cell_number(row, *column),
+            Expr::Neg(operand) => negative(operand.get().number(row)),
+            Expr::Add(left, right) => sum(left.get().number(row), right.get().number(row)),
+            Expr::Sub(left, right) => difference(left.get().number(row), right.get().number(row)),
+            Expr::Mul(left, right) => product(left.get().number(row), right.get().number(row)),
         }
     }
 }
 
-/// The value of a column, NULL where the row hasn't the column.
-fn cell(alloc: Global, row: &Row, column: u32) -> R<Value>
-    ensures { IfOk result (λ value. value ≡ slice_index_or row.now column Value.Null) }
+fn number_of(value: &Value) -> Option<i64>
+    ensures { result ≡ number_in value.now }
 {
-    match row.as_slice().get(column as usize) {
-        None => Ok(Value::Null),
-        Some(value) => value.copy(alloc),
+    match value {
+        Value::Int(number) => Some(*number),
+        Value::Null | Value::Text(_) => None,
     }
+}
+
+/// The number of a column, none where the row hasn't the column.
+fn cell_number(row: &Row, column: u32) -> Option<i64>
+    ensures { result ≡ number_in (slice_index_or row.now column Value.Null) }
+{
+    number_of(row.as_slice().get(column as usize)?)
 }
 
 fn clipped(number: i128) -> i64
@@ -52,40 +85,28 @@ fn clipped(number: i128) -> i64
     number.clamp(-9223372036854775808, 9223372036854775807) as i64
 }
 
-fn negative(operand: Value) -> Value
-    ensures { result ≡ negated operand }
+fn negative(operand: Option<i64>) -> Option<i64>
+    ensures { result ≡ opposite_number operand }
 {
-    match operand {
-        Value::Int(number) => Value::Int(clipped(-(number as i128))),
-        _ => Value::Null,
-    }
+    Some(clipped(-(operand? as i128)))
 }
 
-fn sum(left: Value, right: Value) -> Value
-    ensures { result ≡ calculated ◌+ℤ◌ left right }
+fn sum(left: Option<i64>, right: Option<i64>) -> Option<i64>
+    ensures { result ≡ combined ◌+ℤ◌ left right }
 {
-    match (left, right) {
-        (Value::Int(left), Value::Int(right)) => Value::Int(clipped(wide_sum(left, right))),
-        _ => Value::Null,
-    }
+    Some(clipped(wide_sum(left?, right?)))
 }
 
-fn difference(left: Value, right: Value) -> Value
-    ensures { result ≡ calculated ◌-ℤ◌ left right }
+fn difference(left: Option<i64>, right: Option<i64>) -> Option<i64>
+    ensures { result ≡ combined ◌-ℤ◌ left right }
 {
-    match (left, right) {
-        (Value::Int(left), Value::Int(right)) => Value::Int(clipped(wide_difference(left, right))),
-        _ => Value::Null,
-    }
+    Some(clipped(wide_difference(left?, right?)))
 }
 
-fn product(left: Value, right: Value) -> Value
-    ensures { result ≡ calculated ◌*ℤ◌ left right }
+fn product(left: Option<i64>, right: Option<i64>) -> Option<i64>
+    ensures { result ≡ combined ◌*ℤ◌ left right }
 {
-    match (left, right) {
-        (Value::Int(left), Value::Int(right)) => Value::Int(clipped(wide_product(left, right))),
-        _ => Value::Null,
-    }
+    Some(clipped(wide_product(left?, right?)))
 }
 
 fn wide_sum(left: i64, right: i64) -> i128
@@ -123,32 +144,56 @@ impl Op {
 }
 
 impl Cond {
-    /// The truth over a row, none where it is unknown.
+    /// The truth over a row, none where it is unknown. It takes no memory.
     /// Source: MySQL Reference Manual, "Working with NULL Values" and "Logical Operators".
-    pub fn truth(&self, alloc: Global, schema: &Schema, row: &Row) -> R<Option<bool>>
-        ensures { IfOk result (λ truth. truth ≡ truth_of schema.now row.now self.now) }
+    pub fn truth(&self, schema: &Schema, row: &Row) -> Option<bool>
+        ensures { result ≡ truth_of schema.now row.now self.now }
     {
         match self {
-            Cond::Compare { op, left, right } => Ok(comparison(
-                *op,
-                &left.value(alloc, row)?,
-                &right.value(alloc, row)?,
-            )),
-            Cond::KeyCompare { op, key } => Ok(Some(op.is_met(compare_values(
+            Cond::Compare { op, left, right } => compared_sides(*op, left, right, row),
+            Cond::KeyCompare { op, key } => Some(op.is_met(compare_values(
                 schema.key_values(row),
                 key.as_slice(),
-            )))),
-            Cond::IsNull { expr, negated } => Ok(Some(is_null(*negated, &expr.value(alloc, row)?))),
-            Cond::Not(operand) => Ok(not(operand.get().truth(alloc, schema, row)?)),
-            Cond::And(left, right) => Ok(and(
-                left.get().truth(alloc, schema, row)?,
-                right.get().truth(alloc, schema, row)?,
-            )),
-            Cond::Or(left, right) => Ok(or(
-                left.get().truth(alloc, schema, row)?,
-                right.get().truth(alloc, schema, row)?,
-            )),
+            ))),
+            Cond::IsNull { expr, negated } => Some(has_null(*negated, expr, row)),
+            Cond::Not(operand) => not(operand.get().truth(schema, row)),
+            Cond::And(left, right) => and(
+                left.get().truth(schema, row),
+                right.get().truth(schema, row),
+            ),
+            Cond::Or(left, right) => or(
+                left.get().truth(schema, row),
+                right.get().truth(schema, row),
+            ),
         }
+    }
+}
+
+fn compared_sides(op: Op, left: &Expr, right: &Expr, row: &Row) -> Option<bool>
+    ensures { result ≡ compared op (value_of row.now left.now) (value_of row.now right.now) }
+{
+    match left.held(row) {
+        Some(value) => compared_value(op, value, right, row),
+        None => compared_value(op, &left.calculated(row), right, row),
+    }
+}
+
+fn compared_value(op: Op, left: &Value, right: &Expr, row: &Row) -> Option<bool>
+    ensures { result ≡ compared op left.now (value_of row.now right.now) }
+{
+    match right.held(row) {
+        Some(value) => comparison(op, left, value),
+        None => comparison(op, left, &right.calculated(row)),
+    }
+}
+
+/// Whether the value of an expression is NULL or, negated, whether it isn't.
+fn has_null(negated: bool, expr: &Expr, row: &Row) -> bool
+    ensures { result ≡ null_test negated (value_of row.now expr.now) }
+{
+    match expr.held(row) {
+        Some(value) => is_null(negated, value),
+        None => is_null(negated, &expr.calculated(row)),
     }
 }
 
@@ -200,11 +245,11 @@ fn or(left: Option<bool>, right: Option<bool>) -> Option<bool>
 }
 
 /// Whether a statement with this condition, or none, takes the row.
-pub(crate) fn takes(alloc: Global, schema: &Schema, cond: &Option<Cond>, row: &Row) -> R<bool>
-    ensures { IfOk result (λ taken. taken ≡ is_taken schema.now cond.now row.now) }
+pub(crate) fn takes(schema: &Schema, cond: &Option<Cond>, row: &Row) -> bool
+    ensures { result ≡ is_taken schema.now cond.now row.now }
 {
     match cond {
-        None => Ok(true),
-        Some(cond) => Ok(cond.truth(alloc, schema, row)? == Some(true)),
+        None => true,
+        Some(cond) => cond.truth(schema, row) == Some(true),
     }
 }

@@ -2,7 +2,6 @@
 #![tactic(auto)]
 
 pub mod assignments;
-pub mod changes;
 pub mod conditions;
 pub mod effect_laws;
 pub mod effects;
@@ -13,7 +12,6 @@ pub mod scripts;
 pub mod statements;
 
 pub use assignments::{Assignment, Sets};
-pub use changes::{Change, apply_change, has_key_of, planned, stretch};
 pub use conditions::Cond;
 pub use effect_laws::{
     no_taken_row_is_out_of_reach, statements_act_key_by_key, statements_leave_what_is_out_of_reach,

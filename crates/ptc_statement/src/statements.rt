@@ -115,44 +115,25 @@ impl Statement {
                 table: *table,
                 cond: copy_cond(alloc, cond)?,
             }),
-            Statement::Update { table, sets, cond } => Ok(Statement::Update {
-                table: *table,
-                sets: sets.copy(alloc)?,
-                cond: copy_cond(alloc, cond)?,
-            }),
+            Statement::Update { table, sets, cond } => copy_update(alloc, *table, sets, cond),
             Statement::LockRead {
                 table,
                 mode,
                 span,
                 cond,
-            } => Ok(Statement::LockRead {
-                table: *table,
-                mode: *mode,
-                span: span.copy(alloc)?,
-                cond: copy_cond(alloc, cond)?,
-            }),
+            } => copy_lock_read(alloc, *table, *mode, span, cond),
             Statement::Check {
                 table,
                 chunk,
                 span,
                 kind,
-            } => Ok(Statement::Check {
-                table: *table,
-                chunk: *chunk,
-                span: span.copy(alloc)?,
-                kind: *kind,
-            }),
+            } => copy_check(alloc, *table, *chunk, span, *kind),
             Statement::SetMaster {
                 table,
                 chunk,
                 kind,
                 master,
-            } => Ok(Statement::SetMaster {
-                table: *table,
-                chunk: *chunk,
-                kind: *kind,
-                master: *master,
-            }),
+            } => Ok(copy_set_master(*table, *chunk, *kind, master)),
             Statement::ClearChecks { table } => Ok(Statement::ClearChecks { table: *table }),
         }
     }
@@ -300,6 +281,55 @@ impl Statement {
             Statement::ClearChecks { table: own_table } => *own_table == table,
             _ => false,
         }
+    }
+}
+
+fn copy_update(alloc: Global, table: u32, sets: &Sets, cond: &Option<Cond>) -> R<Statement>
+    ensures { IfOk result (λ copy. copy ≡ Statement.Update table sets.now cond.now) }
+{
+    Ok(Statement::Update {
+        table,
+        sets: sets.copy(alloc)?,
+        cond: copy_cond(alloc, cond)?,
+    })
+}
+
+fn copy_lock_read(
+    alloc: Global,
+    table: u32,
+    mode: LockMode,
+    span: &Span,
+    cond: &Option<Cond>,
+) -> R<Statement>
+    ensures { IfOk result (λ copy. copy ≡ Statement.LockRead table mode span.now cond.now) }
+{
+    Ok(Statement::LockRead {
+        table,
+        mode,
+        span: span.copy(alloc)?,
+        cond: copy_cond(alloc, cond)?,
+    })
+}
+
+fn copy_check(alloc: Global, table: u32, chunk: u32, span: &Span, kind: DigestKind) -> R<Statement>
+    ensures { IfOk result (λ copy. copy ≡ Statement.Check table chunk span.now kind) }
+{
+    Ok(Statement::Check {
+        table,
+        chunk,
+        span: span.copy(alloc)?,
+        kind,
+    })
+}
+
+fn copy_set_master(table: u32, chunk: u32, kind: DigestKind, master: &Digest) -> Statement
+    ensures { result ≡ Statement.SetMaster table chunk kind master.now }
+{
+    Statement::SetMaster {
+        table,
+        chunk,
+        kind,
+        master: *master,
     }
 }
 

@@ -1,13 +1,10 @@
-ghost use Rattle.std.specs.Prelude.{◌≡◌, [], ◌∷◌, pos, IfOk};
-ghost use Rattle.ptc_statement.specs.Planned.{IsRising};
-
 use crate::{
-    Assignment, Change, Cond, Expr, Op, Script, ScriptLine, ScriptLines, ScriptStep, Scripts, Sets,
-    Statement, Statements, act, apply_change, has_key_of, planned, reach,
+    Assignment, Cond, Expr, Op, Script, ScriptLine, ScriptLines, ScriptStep, Scripts, Sets,
+    Statement, Statements, act, reach,
 };
 use row_types::{
-    Bytes, Column, ColumnKind, Columns, Digest, DigestKind, Edge, Key, LockMode, R, Row, Rows,
-    Schema, Span, Value,
+    Bytes, Column, ColumnKind, Columns, Digest, DigestKind, Edge, Key, LockMode, R, Row, Schema,
+    Span, Value,
 };
 use std::alloc::Global;
 
@@ -22,9 +19,7 @@ fn column(alloc: Global, kind: ColumnKind, nullable: bool) -> Column {
 }
 
 /// A table with a key of one column and a column that takes NULL.
-fn schema(alloc: Global) -> R<Schema>
-    ensures { IfOk result (λ schema. schema.key_len ≡ 1) }
-{
+fn schema(alloc: Global) -> R<Schema> {
     let mut columns = Columns::new(alloc);
     columns.push(column(alloc, ColumnKind::Int, false))?;
     columns.push(column(alloc, ColumnKind::Int, true))?;
@@ -35,9 +30,7 @@ fn schema(alloc: Global) -> R<Schema>
     })
 }
 
-fn row(alloc: Global, id: i64, v: i64) -> R<Row>
-    ensures { IfOk result (λ row. row ≡ Value.Int id ∷ Value.Int v ∷ []) }
-{
+fn row(alloc: Global, id: i64, v: i64) -> R<Row> {
     let mut row = Row::new(alloc);
     row.push(Value::Int(id))?;
     row.push(Value::Int(v))?;
@@ -55,18 +48,6 @@ fn key(alloc: Global, id: i64) -> R<Key> {
     let mut key = Key::new(alloc);
     key.push(Value::Int(id))?;
     Ok(key)
-}
-
-/// Three rows.
-fn table(alloc: Global) -> R<Rows>
-    ensures { IfOk result (λ rows. rows ≡
-        (Value.Int (pos 2) ∷ Value.Int (pos 20) ∷ []) ∷ (Value.Int (pos 4) ∷ Value.Int (pos 40) ∷ []) ∷ (Value.Int (pos 6) ∷ Value.Int (pos 60) ∷ []) ∷ []) }
-{
-    let mut rows = Rows::new(alloc);
-    rows.push(row(alloc, 2, 20)?)?;
-    rows.push(row(alloc, 4, 40)?)?;
-    rows.push(row(alloc, 6, 60)?)?;
-    Ok(rows)
 }
 
 /// The condition that a column has a value.
@@ -188,31 +169,31 @@ fn conditions_narrow_the_reach(rt: HostRuntime) {
     assert!(rt; all.same(&Span::whole()));
 }
 
-/// The rows that a statement leaves of three.
-#[tactic(auto, using(crate::proofs::TestLemmas::three_rise))]
-fn rows_left(alloc: Global, statement: &Statement) -> R<Rows> {
-    let schema = schema(alloc)?;
-    let mut rows = table(alloc)?;
-    let change: Change = planned(alloc, statement, &schema, rows.as_slice())?;
-    rows.items.reserve(change.rows.len())?;
-    apply_change(&mut rows.items, change);
-    Ok(rows)
-}
+const THREE: [(i64, i64); 3] = [(2, 20), (4, 40), (6, 60)];
 
-fn are(alloc: Global, rows: &Rows, expected: &[(i64, i64)]) -> R<bool> {
-    let mut others = Rows::new(alloc);
-    for (id, v) in expected {
-        others.push(row(alloc, *id, *v)?)?;
+/// The row of a key among others, if there is one.
+fn row_among(alloc: Global, rows: &[(i64, i64)], id: i64) -> R<Option<Row>> {
+    for (own, v) in rows {
+        if *own == id {
+            return Ok(Some(row(alloc, *own, *v)?));
+        }
     }
-    Ok(rows.same(&others))
+    Ok(None)
 }
 
+/// Whether a statement makes these rows of the three, as told at each key from 0 to 8.
 fn leaves(alloc: Global, statement: &Statement, expected: &[(i64, i64)]) -> R<bool> {
-    let rows = rows_left(alloc, statement)?;
-    are(alloc, &rows, expected)
+    for id in 0..9i64 {
+        let old = row_among(alloc, &THREE, id)?;
+        let new = row_among(alloc, expected, id)?;
+        if !gives(alloc, statement, id, old.as_ref(), new.as_ref())? {
+            return Ok(false);
+        }
+    }
+    Ok(true)
 }
 
-/// Rows at the front, in the middle, at the end, and at an absent key.
+/// Rows at the least key, in the middle, at the greatest, and at an absent key.
 #[test]
 fn tables_change_by_statements(rt: HostRuntime) {
     let alloc = rt.alloc();
@@ -239,26 +220,7 @@ fn tables_change_by_statements(rt: HostRuntime) {
     assert!(rt; leaves(alloc, &clear, &[(2, 20), (4, 40), (6, 60)]).expect(&rt, "memory"));
 }
 
-#[tactic(auto, using(crate::proofs::TestLemmas::three_rise))]
-fn has_id(alloc: Global, id: i64) -> R<bool> {
-    let schema = schema(alloc)?;
-    let rows = table(alloc)?;
-    let row = row(alloc, id, 0)?;
-    Ok(has_key_of(&schema, rows.as_slice(), &row))
-}
-
-/// Keys are found, whatever stands behind them.
-#[test]
-fn keys_are_found(rt: HostRuntime) {
-    let alloc = rt.alloc();
-    assert!(rt; has_id(alloc, 2).expect(&rt, "memory"));
-    assert!(rt; has_id(alloc, 6).expect(&rt, "memory"));
-    assert!(rt; !has_id(alloc, 1).expect(&rt, "memory"));
-    assert!(rt; !has_id(alloc, 5).expect(&rt, "memory"));
-    assert!(rt; !has_id(alloc, 7).expect(&rt, "memory"));
-}
-
-/// A REPLACE puts its row at its place, whether its key is there or not.
+/// A REPLACE puts its row at its key, whether that is there or not.
 #[test]
 fn replaces_put_rows_in(rt: HostRuntime) {
     let alloc = rt.alloc();

@@ -29,12 +29,6 @@ clipped_is_nearest (TextColumn max) n is = absurd is
 int_tie : (n : ℤ) → int_cmp n n ≡ Equal
 int_tie n = tied_itself int_cmp_total n
 
-range_out : (place : ℕ) (kind : ColumnKind) (n : ℤ) (o : Ordering) → int_cmp (clipped kind n) n ≡ o → (clipped kind n ≡ n → ⊥)
-    → cond (is_eq o) None (Some (OutOfRange place n)) ≡ Some (OutOfRange place n)
-range_out place kind n Less e out = refl
-range_out place kind n Equal e out = absurd (out (int_cmp-IsAntisymmetric (clipped kind n) n e))
-range_out place kind n Greater e out = refl
-
 range_kept : (place : ℕ) (kind : ColumnKind) (n : ℤ) (o : Ordering) → int_cmp (clipped kind n) n ≡ o
     → cond (is_eq o) None (Some (OutOfRange place n)) ≡ None → clipped kind n ≡ n
 range_kept place kind n Less e none = cc

@@ -12,9 +12,9 @@ use Rattle.ptc_statement.specs.Reach.{reach_of}
 use Rattle.ptc_statement.specs.Effect.{effect, effect_within, rows_after}
 use Rattle.ptc_statement.specs.Effect.{row_at as row_of}
 use Rattle.ptc_statement.specs.Fits.{StatementFits}
-use Rattle.ptc_statement.proofs.LawLemmas.{acts_at}
+use Rattle.ptc_statement.proofs.ActLemmas.{acts_at}
 use Rattle.ptc_statement.proofs.TableLemmas.{rows_after_table}
-use Rattle.ptc_statement.proofs.ReplaceLemmas.{just_itself}
+use Rattle.ptc_statement.proofs.KeyLemmas.{just_itself}
 use Rattle.ordered_table.specs.KeyRows.{AreOrdered, is_at, row_at, rows_in, put_row}
 use Rattle.ordered_table.proofs.LawLemmas.{same_key, put_at}
 use Rattle.ordered_table.proofs.OrderedLemmas.{filter_ordered}

@@ -12,7 +12,7 @@ use Rattle.ptc_statement.specs.declared.statements.Statement.{Statement}
 use Rattle.ptc_statement.specs.Reach.{reach_of}
 use Rattle.ptc_statement.specs.Effect.{effect, effect_within}
 use Rattle.ptc_statement.specs.Fits.{StatementFits}
-use Rattle.ptc_statement.proofs.TableLemmas.{LeftKeeps, effect_keeps}
+use Rattle.ptc_statement.proofs.KeepLemmas.{LeftKeeps, effect_keeps}
 use Rattle.ordered_table.specs.KeyRows.{AreOrdered, is_at, row_at, rows_in}
 use Rattle.ordered_table.proofs.LawLemmas.{same_key, put_at, removed_gone, removed_elsewhere, part_at}
 use Rattle.ordered_table.proofs.OrderedLemmas.{filter_ordered}

@@ -1,32 +1,29 @@
 -- After a statement that fits, a table has at each key what the statement makes of the row there.
 use Rattle.std.proofs.Common.{◌≡◌, ◌∙◌, ℕ, Bool, true, false, cond, Option, Some, None, List, [], ◌∷◌, refl, ap, sym}
-use Rattle.std.specs.Prelude.{◌&&◌}
-use Rattle.std.specs.Ordering.{is_eq, is_le, match_ordering, ordering_reverse}
+use Rattle.std.specs.Ordering.{match_ordering, is_eq}
 use Rattle.std.specs.declared.cmp.Ordering.{Ordering}
 use Rattle.std.specs.declared.cmp.Ordering.TheVariants.{Less, Equal, Greater}
 use Rattle.row_types.specs.declared.values.Value.{Value}
 use Rattle.row_types.specs.declared.table_schema.Schema.{Schema}
 use Rattle.row_types.specs.Order.{key_cmp, has}
-use Rattle.row_types.specs.Fit.{key_of, with_row, IsBelowAll, IsTable}
-use Rattle.row_types.proofs.OrderLemmas.{keys_total, keys_exact, key_ties, key_below}
+use Rattle.row_types.specs.Fit.{key_of, IsTable, with_row}
+use Rattle.row_types.proofs.OrderLemmas.{keys_exact}
 use Rattle.ptc_statement.specs.declared.statements.Statement.{Statement}
 use Rattle.ptc_statement.specs.declared.statements.Statement.TheVariants.{Insert, Replace, Delete, Update, LockRead, Check, SetMaster, ClearChecks}
-use Rattle.ptc_statement.specs.Reach.{just_key, reach_of}
+use Rattle.ptc_statement.specs.Reach.{reach_of}
 use Rattle.ptc_statement.specs.Effect.{effect, effect_within, changed, with_front, with_new_row, rows_after, row_at}
 use Rattle.ptc_statement.specs.Fits.{StatementFits}
-use Rattle.ptc_statement.proofs.TableLemmas.{LeftKeeps, effect_keeps, changed_above}
-use Rattle.ptc_statement.proofs.ReplaceLemmas.{is_equal, just_itself, replace_other, replace_same}
+use Rattle.ptc_statement.proofs.KeyLemmas.{is_equal, just_itself, first_here, none_behind, below_all}
+use Rattle.ptc_statement.proofs.KeepLemmas.{LeftKeeps, effect_keeps}
+use Rattle.ptc_statement.proofs.TableLemmas.{changed_above}
+
+-- outside its reach a statement leaves the old row, or none
+pub effect_outside : (schema : Schema) (statement : Statement) (key : List Value) (old : Option (List Value)) → has (reach_of schema statement) key ≡ false → effect schema statement key old ≡ old
+effect_outside schema statement key old e = ap (λ (b : Bool). cond b (effect_within schema statement old) old) e
 
 either_way : (b : Bool) (o : Option (List Value)) → cond b o o ≡ o
 either_way true o = refl
 either_way false o = refl
-
--- no row behind another has its key
-none_behind : (schema : Schema) (key row : List Value) (rows : List (List Value)) → key ≡ key_of schema row → IsBelowAll schema row rows → row_at schema key rows ≡ None
-none_behind schema key row [] is below = refl
-none_behind schema key row (other ∷ others) is below =
-    ap (λ (o : Ordering). cond (is_eq o) (Some other) (row_at schema key others)) (ap (λ (k : List Value). key_cmp k (key_of schema other)) is ∙ below.0)
-    ∙ none_behind schema key row others is below.1
 
 -- the row at a key behind what is left of a row with another key, or with this one
 front_other : (schema : Schema) (key row : List Value) (left : Option (List Value)) (rows : List (List Value)) → LeftKeeps schema row left
@@ -84,15 +81,6 @@ abbrev or_new : List Value → Option (List Value) → Option (List Value)
 or_new row None = Some row
 or_new row (Some old) = Some old
 
-first_here : (schema : Schema) (row : List Value) (rows : List (List Value)) → row_at schema (key_of schema row) (row ∷ rows) ≡ Some row
-first_here schema row rows = ap (λ (o : Ordering). cond (is_eq o) (Some row) (row_at schema (key_of schema row) rows)) (key_ties (key_of schema row))
-
-below_rest : (schema : Schema) (row other : List Value) (others : List (List Value)) → key_cmp (key_of schema row) (key_of schema other) ≡ Less → IsBelowAll schema other others
-    → IsBelowAll schema row others
-below_rest schema row other [] below all = tt
-below_rest schema row other (next ∷ others) below all =
-    (key_below (key_of schema row) (key_of schema other) (key_of schema next) below all.0, below_rest schema row other others below all.1)
-
 put_same_at : (schema : Schema) (row other : List Value) (others : List (List Value)) (o : Ordering) → key_cmp (key_of schema row) (key_of schema other) ≡ o
     → IsTable schema (other ∷ others)
     → row_at schema (key_of schema row) (with_new_row schema row others) ≡ or_new row (row_at schema (key_of schema row) others)
@@ -100,7 +88,7 @@ put_same_at : (schema : Schema) (row other : List Value) (others : List (List Va
     ≡ or_new row (cond (is_eq o) (Some other) (row_at schema (key_of schema row) others))
 put_same_at schema row other others Less e table more =
     first_here schema row (other ∷ others)
-    ∙ ap (or_new row) (sym (none_behind schema (key_of schema row) row others refl (below_rest schema row other others e table.1)))
+    ∙ ap (or_new row) (sym (none_behind schema (key_of schema row) row others refl (below_all schema row other others e table.1)))
 put_same_at schema row other others Equal e table more =
     ap (λ (o : Ordering). cond (is_eq o) (Some other) (row_at schema (key_of schema row) others)) e
 put_same_at schema row other others Greater e table more =
@@ -125,6 +113,43 @@ insert_at schema table key row rows true same is =
     ∙ is_new schema table row (row_at schema (key_of schema row) rows)
     ∙ ap (λ (k : List Value). effect_within schema (Insert table row) (row_at schema k rows)) (sym here)
 insert_at schema table key row rows false apart is = put_other schema key row rows apart
+
+apart_from : (schema : Schema) (key row other : List Value) → key_cmp (key_of schema row) (key_of schema other) ≡ Equal → is_eq (key_cmp key (key_of schema row)) ≡ false
+    → is_eq (key_cmp key (key_of schema other)) ≡ false
+apart_from schema key row other tie apart =
+    ap (λ (k : List Value). is_eq (key_cmp key k)) (sym (keys_exact (key_of schema row) (key_of schema other) tie)) ∙ apart
+
+replace_other_at : (schema : Schema) (key row other : List Value) (others : List (List Value)) (o : Ordering) → key_cmp (key_of schema row) (key_of schema other) ≡ o
+    → is_eq (key_cmp key (key_of schema row)) ≡ false
+    → row_at schema key (with_row schema row others) ≡ row_at schema key others
+    → row_at schema key (match_ordering o (row ∷ other ∷ others) (row ∷ others) (other ∷ with_row schema row others)) ≡ row_at schema key (other ∷ others)
+replace_other_at schema key row other others Less e apart more = ap (λ (b : Bool). cond b (Some row) (row_at schema key (other ∷ others))) apart
+replace_other_at schema key row other others Equal e apart more =
+    ap (λ (b : Bool). cond b (Some row) (row_at schema key others)) apart
+    ∙ ap (λ (b : Bool). cond b (Some other) (row_at schema key others)) (sym (apart_from schema key row other e apart))
+replace_other_at schema key row other others Greater e apart more =
+    ap (cond (is_eq (key_cmp key (key_of schema other))) (Some other)) more
+
+-- it leaves the other keys
+replace_other : (schema : Schema) (key row : List Value) (rows : List (List Value)) → is_eq (key_cmp key (key_of schema row)) ≡ false
+    → row_at schema key (with_row schema row rows) ≡ row_at schema key rows
+replace_other schema key row [] apart = ap (λ (b : Bool). cond b (Some row) None) apart
+replace_other schema key row (other ∷ others) apart =
+    replace_other_at schema key row other others (key_cmp (key_of schema row) (key_of schema other)) refl apart (replace_other schema key row others apart)
+
+replace_same_at : (schema : Schema) (row other : List Value) (others : List (List Value)) (o : Ordering) → key_cmp (key_of schema row) (key_of schema other) ≡ o
+    → row_at schema (key_of schema row) (with_row schema row others) ≡ Some row
+    → row_at schema (key_of schema row) (match_ordering o (row ∷ other ∷ others) (row ∷ others) (other ∷ with_row schema row others)) ≡ Some row
+replace_same_at schema row other others Less e more = first_here schema row (other ∷ others)
+replace_same_at schema row other others Equal e more = first_here schema row others
+replace_same_at schema row other others Greater e more =
+    ap (λ (o : Ordering). cond (is_eq o) (Some other) (row_at schema (key_of schema row) (with_row schema row others))) e ∙ more
+
+-- it gives its row at its own key
+replace_same : (schema : Schema) (row : List Value) (rows : List (List Value)) → row_at schema (key_of schema row) (with_row schema row rows) ≡ Some row
+replace_same schema row [] = first_here schema row []
+replace_same schema row (other ∷ others) =
+    replace_same_at schema row other others (key_cmp (key_of schema row) (key_of schema other)) refl (replace_same schema row others)
 
 replace_at : (schema : Schema) (key row : List Value) (rows : List (List Value)) (b : Bool) → is_eq (key_cmp key (key_of schema row)) ≡ b
     → row_at schema key (with_row schema row rows) ≡ cond b (Some row) (row_at schema key rows)
