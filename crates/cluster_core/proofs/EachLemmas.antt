@@ -1,6 +1,6 @@
 -- What holds of each element of a list, as the list changes.
-use Rattle.std.proofs.Common.{◌≡◌, ℕ, zero, suc, ◌+◌, ◌-◌, ◌≤◌, List, [], ◌∷◌, ◌++◌, length, map, refl, ap, ◌∙◌, sym, subst, arith, append_assoc, length-append, Some, None}
-use Rattle.std.specs.Prelude.{slice_set}
+use Rattle.std.proofs.Common.{◌≡◌, ℕ, zero, suc, ◌+◌, ◌-◌, ◌≤◌, List, [], ◌∷◌, ◌++◌, length, map, refl, ap, ◌∙◌, sym, subst, arith, append_assoc, length-append, Bool, true, false, cond, Some, None}
+use Rattle.std.specs.Prelude.{slice_set, filter}
 use Rattle.std.specs.List.{AllByRecursion, slice_get}
 
 pub each_more : {A : Type 0} (P Q : A → Type 0) (xs : List A) → ((x : A) → P x → Q x) → AllByRecursion P xs → AllByRecursion Q xs
@@ -34,6 +34,14 @@ pub each_set : {A : Type 0} (P : A → Type 0) (xs : List A) (i : ℕ) (x : A) �
 each_set P [] i x each holds = tt
 each_set P (y ∷ xs) zero x each holds = (holds, each.1)
 each_set P (y ∷ xs) (suc i) x each holds = (each.0, each_set P xs i x each.1 holds)
+
+each_kept : {A : Type 0} (P : A → Type 0) (x : A) (xs : List A) (keeps : Bool) → P x → AllByRecursion P xs → AllByRecursion P (cond keeps (x ∷ xs) xs)
+each_kept P x xs true holds each = (holds, each)
+each_kept P x xs false holds each = each
+
+pub each_filtered : {A : Type 0} (P : A → Type 0) (test : A → Bool) (xs : List A) → AllByRecursion P xs → AllByRecursion P (filter test xs)
+each_filtered P test [] each = tt
+each_filtered P test (x ∷ xs) each = each_kept P x (filter test xs) (test x) each.0 (each_filtered P test xs each.1)
 
 pub each_map : {A B : Type 0} (f : A → B) (P : B → Type 0) (xs : List A) → AllByRecursion (λ x. P (f x)) xs → AllByRecursion P (map f xs)
 each_map f P [] each = tt

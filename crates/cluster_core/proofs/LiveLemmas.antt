@@ -1,6 +1,7 @@
 -- Live tables: what they keep, and what a statement does to them.
-use Rattle.std.proofs.Common.{◌≡◌, ℕ, zero, suc, ◌<◌, ◌≤◌, ◌^◌, ◌+◌, List, [], ◌∷◌, ◌++◌, length, take, map, refl, ap, sym, ◌∙◌, subst, arith, Option, Some, None}
-use Rattle.std.specs.Prelude.{slice_index_or, slice_set}
+use Rattle.std.proofs.Common.{◌≡◌, ℕ, zero, suc, ◌<◌, ◌≤◌, ◌^◌, ◌+◌, List, [], ◌∷◌, ◌++◌, length, take, map, refl, ap, sym, ◌∙◌, subst, arith, Option, Some, None, Bor}
+use Rattle.std.specs.Prelude.{is_some, option_copied, option_and_then, slice_index_or, slice_set}
+use Rattle.std.proofs.lemmas.List.{set-get_or}
 use Rattle.std.specs.Option.{option_map_or}
 use Rattle.std.specs.List.{AllByRecursion, slice_get}
 use Rattle.row_types.specs.declared.values.Value.{Value}
@@ -9,18 +10,23 @@ use Rattle.row_types.specs.declared.table_schema.ColumnKind.{ColumnKind}
 use Rattle.row_types.specs.declared.table_schema.ColumnKind.TheVariants.{Int as IntColumn, BigInt, Text as TextColumn}
 use Rattle.row_types.specs.declared.table_schema.Column.{Column}
 use Rattle.row_types.specs.declared.table_schema.Schema.{Schema}
-use Rattle.row_types.specs.Fit.{IsSchema, IsTable, AreTables, ValuesFit, ValueFits, TextFits, KindFits, LengthFits}
+use Rattle.row_types.specs.declared.edges.Span.{Span}
+use Rattle.row_types.specs.Fit.{key_of, IsSchema, IsTable, AreTables, ValuesFit, ValueFits, TextFits, KindFits, LengthFits}
 use Rattle.row_types.specs.Faults.{TextIsShort}
-use Rattle.ordered_table.specs.KeyRows.{AreOrdered}
+use Rattle.ordered_table.specs.KeyRows.{row_at, rows_in}
 use Rattle.ordered_table.specs.TableView.{TableView}
-use Rattle.ordered_table.proofs.SchemaLemmas.{table_ordered}
 use Rattle.ptc_statement.specs.declared.statements.Statement.{Statement}
 use Rattle.ptc_statement.specs.Effect.{table_of, rows_after}
+use Rattle.ptc_statement.specs.Effect.{row_at as row_of}
+use Rattle.ptc_statement.specs.Fits.{StatementFits}
+use Rattle.ptc_statement.proofs.TableLemmas.{rows_after_table}
 use Rattle.row_digest.specs.Encoding.{IsEncodable}
 use Rattle.table_changes.specs.Plans.{IsSound}
-use Rattle.history.specs.Replay.{table_rows, tables_after}
-use Rattle.cluster_core.specs.LiveTables.{rows_of_each}
+use Rattle.table_changes.proofs.DueLemmas.{same_row}
+use Rattle.history.specs.Replay.{chunk_rows, table_rows, tables_after}
+use Rattle.cluster_core.specs.LiveTables.{row_in, rows_of_each}
 use Rattle.cluster_core.specs.LiveParts.{AreSound}
+use Rattle.cluster_core.proofs.MoveLemmas.{slice_get-within}
 
 text_is_short : (kind : ColumnKind) (text : List ℕ) → KindFits kind → TextFits kind text → length text < 2 ^ 32
 text_is_short IntColumn text fits short = absurd short
@@ -87,6 +93,49 @@ sound_set (first ∷ schemas) (one ∷ tables) zero schema table are found sound
     (subst (λ (s : Schema). IsSound s table.key_len table.rows) same sound, are.1)
 sound_set (first ∷ schemas) (one ∷ tables) (suc place) schema table are found sound = (are.0, sound_set schemas tables place schema table are.1 found sound)
 
+-- a table for one schema more
+pub sound_more : (schemas : List Schema) (tables : List TableView) (place : ℕ) (schema : Schema) (table : TableView) → AreSound (take place schemas) tables
+    → slice_get schemas place ≡ Some schema → IsSound schema table.key_len table.rows → AreSound (take (suc place) schemas) (tables ++ table ∷ [])
+sound_more [] tables place schema table are found sound = absurd (cc)
+sound_more (first ∷ schemas) [] zero schema table are found sound =
+    let same : schema ≡ first = cc in
+    (subst (λ (s : Schema). IsSound s table.key_len table.rows) same sound, tt)
+sound_more (first ∷ schemas) (one ∷ tables) zero schema table are found sound = absurd are
+sound_more (first ∷ schemas) [] (suc place) schema table are found sound = absurd are
+sound_more (first ∷ schemas) (one ∷ tables) (suc place) schema table are found sound = (are.0, sound_more schemas tables place schema table are.1 found sound)
+
+pub rows_more : (tables : List TableView) (start : List (List (List Value))) (place : ℕ) (table : TableView) → rows_of_each tables ≡ take place start
+    → slice_get start place ≡ Some table.rows → rows_of_each (tables ++ table ∷ []) ≡ take (suc place) start
+rows_more tables [] place table same found = absurd (cc)
+rows_more [] (rows ∷ start) zero table same found =
+    let is : rows ≡ table.rows = cc in
+    ap (λ (r : List (List Value)). r ∷ []) (sym is)
+rows_more [] (rows ∷ start) (suc place) table same found = absurd (cc)
+rows_more (one ∷ tables) (rows ∷ start) zero table same found = absurd (cc)
+rows_more (one ∷ tables) (rows ∷ start) (suc place) table same found =
+    let first : one.rows ≡ rows = cc in
+    let others : rows_of_each tables ≡ take place start = cc in
+    ap (λ (r : List (List Value)). r ∷ rows_of_each (tables ++ table ∷ [])) first
+    ∙ ap (λ rest. rows ∷ rest) (rows_more tables start place table others found)
+
+-- the tables at the start are as many as the schemas, and each is of its own
+pub start_many : (schemas : List Schema) (start : List (List (List Value))) → AreTables schemas start → length start ≡ length schemas
+start_many [] [] are = refl
+start_many [] (rows ∷ start) are = absurd are
+start_many (schema ∷ schemas) [] are = absurd are
+start_many (schema ∷ schemas) (rows ∷ start) are = ap suc (start_many schemas start are.1)
+
+pub start_sound : (schemas : List Schema) (start : List (List (List Value))) (place : ℕ) (schema : Schema) (rows : List (List Value)) → AllByRecursion IsSchema schemas
+    → AreTables schemas start → slice_get schemas place ≡ Some schema → slice_get start place ≡ Some rows → IsSound schema schema.key_len rows
+start_sound [] start place schema rows all are found there = absurd (cc)
+start_sound (first ∷ schemas) [] place schema rows all are found there = absurd (cc)
+start_sound (first ∷ schemas) (one ∷ start) zero schema rows all are found there =
+    let same : first ≡ schema = cc in
+    let same_rows : one ≡ rows = cc in
+    subst (λ (rs : List (List Value)). IsSound schema schema.key_len rs) same_rows
+    (subst (λ (s : Schema). IsSound s s.key_len one) same (record { is_schema = all.0; is_table = are.0; same_key = refl }))
+start_sound (first ∷ schemas) (one ∷ start) (suc place) schema rows all are found there = start_sound schemas start place schema rows all.1 are.1 found there
+
 -- the rows of the table of this number
 pub rows_at : (tables : List TableView) (place : ℕ) (table : TableView) → slice_get tables place ≡ Some table → table_rows (rows_of_each tables) place ≡ table.rows
 rows_at [] place table found = absurd (cc)
@@ -111,3 +160,82 @@ pub tables_change : (schemas : List Schema) (statement : Statement) (tables : Li
     → tables_after schemas statement tables ≡ slice_set tables (table_of statement) (rows_after schema statement (table_rows tables (table_of statement)))
 tables_change schemas statement tables schema found =
     ap (λ (o : Option Schema). option_map_or (λ (schema : Schema). slice_set tables (table_of statement) (rows_after schema statement (table_rows tables (table_of statement)))) o tables) found
+
+-- where a table is changed, the tables are those after the statement
+pub changed_at : (schemas : List Schema) (tables : List TableView) (place : ℕ) (schema : Schema) (statement : Statement) (table new : TableView)
+    → place ≡ table_of statement → slice_get schemas place ≡ Some schema → slice_get tables place ≡ Some table
+    → new.rows ≡ rows_after schema statement table.rows
+    → rows_of_each (slice_set tables place new) ≡ tables_after schemas statement (rows_of_each tables)
+changed_at schemas tables place schema statement table new is found there changed =
+    let rows : new.rows ≡ rows_after schema statement (table_rows (rows_of_each tables) (table_of statement)) =
+    changed ∙ ap (rows_after schema statement) (sym (rows_at tables place table there)) ∙ ap (λ n. rows_after schema statement (table_rows (rows_of_each tables) n)) is in
+    rows_set tables place new
+    ∙ ap (λ n. slice_set (rows_of_each tables) n new.rows) is
+    ∙ ap (slice_set (rows_of_each tables) (table_of statement)) rows
+    ∙ sym (tables_change schemas statement (rows_of_each tables) schema (sym (ap (slice_get schemas) is) ∙ found))
+
+-- a sound table is sound after a statement that fits
+pub sound_after : (schema : Schema) (statement : Statement) (old new : TableView) → IsSound schema old.key_len old.rows → StatementFits schema statement
+    → new.key_len ≡ old.key_len → new.rows ≡ rows_after schema statement old.rows → IsSound schema new.key_len new.rows
+sound_after schema statement old new sound fits key changed = record {
+  is_schema = sound.is_schema;
+  is_table = subst (IsTable schema) (sym changed) (rows_after_table schema statement old.rows fits sound.is_table);
+  same_key = key ∙ sound.same_key;
+}
+
+-- and where its rows stay, all do
+pub stays_at : (tables : List TableView) (place : ℕ) (table new : TableView) → slice_get tables place ≡ Some table → new.rows ≡ table.rows
+    → rows_of_each (slice_set tables place new) ≡ rows_of_each tables
+stays_at tables place table new there same =
+    rows_set tables place new ∙ ap (slice_set (rows_of_each tables) place) (same ∙ sym (rows_at tables place table there))
+    ∙ set-get_or (rows_of_each tables) place []
+
+-- the row at the key of another
+pub row_is : (schemas : List Schema) (tables : List TableView) (place : ℕ) (schema : Schema) (table : TableView) (row key : List Value) → AreSound schemas tables
+    → slice_get schemas place ≡ Some schema → slice_get tables place ≡ Some table → key ≡ key_of schema row
+    → row_at table.key_len key table.rows ≡ row_in schemas (rows_of_each tables) place row
+row_is schemas tables place schema table row key are found there same =
+    let sound = sound_at schemas tables place schema table are found there in
+    ap (λ k. row_at table.key_len k table.rows) same
+    ∙ ap (λ n. row_at n (key_of schema row) table.rows) sound.same_key
+    ∙ sym (same_row schema (key_of schema row) table.rows)
+    ∙ ap (row_of schema (key_of schema row)) (sym (rows_at tables place table there))
+    ∙ sym (ap (λ (o : Option Schema). option_and_then (λ (s : Schema). row_of s (key_of s row) (table_rows (rows_of_each tables) place)) o) found)
+
+-- the rows of a span
+pub chunk_is : (schemas : List Schema) (tables : List TableView) (place : ℕ) (schema : Schema) (table : TableView) (span : Span) → AreSound schemas tables
+    → slice_get schemas place ≡ Some schema → slice_get tables place ≡ Some table
+    → rows_in table.key_len span table.rows ≡ chunk_rows schemas (rows_of_each tables) place span
+chunk_is schemas tables place schema table span are found there =
+    let sound = sound_at schemas tables place schema table are found there in
+    ap (λ n. rows_in n span table.rows) sound.same_key
+    ∙ ap (rows_in schema.key_len span) (sym (rows_at tables place table there))
+    ∙ sym (ap (λ (o : Option Schema). option_map_or (λ (s : Schema). rows_in s.key_len span (table_rows (rows_of_each tables) place)) o []) found)
+
+pub no_chunk : (schemas : List Schema) (tables : List (List (List Value))) (place : ℕ) (span : Span) → slice_get schemas place ≡ None → chunk_rows schemas tables place span ≡ []
+no_chunk schemas tables place span none =
+    ap (λ (o : Option Schema). option_map_or (λ (s : Schema). rows_in s.key_len span (table_rows tables place)) o []) none
+
+pub some_copied : {A : Type 0} (found : Option (Bor A)) → is_some found ≡ is_some (option_copied found)
+some_copied None = refl
+some_copied (Some x) = refl
+
+-- the tables at the start, as a loop goes over them
+pub start_at : (schemas all : List Schema) (start starts : List (List (List Value))) (place : ℕ) (schema : Schema) (rows : List (List Value)) → all ≡ schemas → starts ≡ start
+    → AllByRecursion IsSchema schemas → AreTables schemas start → place < length all → schema ≡ slice_index_or all place schema
+    → rows ≡ slice_index_or starts place rows → IsSound schema schema.key_len rows
+start_at schemas all start starts place schema rows same same_start each are within is rows_are =
+    let many = start_many schemas start are in
+    let here : length all ≡ length schemas = ap length same in
+    let there : length starts ≡ length start = ap length same_start in
+    let found : slice_get schemas place ≡ Some schema =
+    ap (λ (ss : List Schema). slice_get ss place) (sym same) ∙ slice_get-within all place schema within ∙ ap (λ (s : Schema). Some s) (sym is) in
+    let found_rows : slice_get start place ≡ Some rows =
+    ap (λ (ts : List (List (List Value))). slice_get ts place) (sym same_start) ∙ slice_get-within starts place rows (omega arith) ∙ ap (λ (r : List (List Value)). Some r) (sym rows_are) in
+    start_sound schemas start place schema rows each are found found_rows
+
+pub take_whole : {A : Type 0} (xs : List A) (n : ℕ) → length xs ≤ n → take n xs ≡ xs
+take_whole [] zero all = refl
+take_whole [] (suc n) all = refl
+take_whole (x ∷ xs) zero all = absurd (omega arith)
+take_whole (x ∷ xs) (suc n) all = ap (λ ys. x ∷ ys) (take_whole xs n (omega arith))

@@ -10,11 +10,15 @@ use Rattle.cluster_core.specs.Node.{NodeView}
 use Rattle.cluster_core.specs.Workload.{StepFits}
 use Rattle.cluster_core.specs.Sessions.{SessionView}
 
--- an entry of one statement, which fits
-pub record IsOneFitting (schemas : List Schema) (entry : Entry) : Type 0 where
+-- one statement, which fits
+pub record IsOneStatement (schemas : List Schema) (statements : List Statement) : Type 0 where
   pub statement : Statement
-  pub only : entry.statements ≡ statement ∷ []
+  pub only : statements ≡ statement ∷ []
   pub fits : FitsSchemas schemas statement
+
+-- an entry of one statement, which fits
+abbrev pub IsOneFitting : List Schema → Entry → Type 0
+IsOneFitting schemas entry = IsOneStatement schemas entry.statements
 
 -- each step of a session's script fits
 abbrev pub StepsFit : List Schema → SessionView → Type 0

@@ -1,4 +1,4 @@
-ghost use Rattle.std.specs.Prelude.{◌≡◌, is_some, IfOk, OnOk, OnErr};
+ghost use Rattle.std.specs.Prelude.{◌≡◌, is_some, option_copied, slice_get, IfOk, OnOk, OnErr};
 ghost use Rattle.std.specs.List.{AllByRecursion};
 ghost use Rattle.row_types.specs.Fit.{IsSchema, AreTables};
 ghost use Rattle.ordered_table.specs.KeyRows.{rows_in};
@@ -70,7 +70,7 @@ impl LiveTables {
         let Some(schema) = self.schemas.tables.get(table) else {
             return false;
         };
-        match self.tables.get(table as usize) {
+        match table_at(self.tables.as_slice(), table) {
             None => false,
             Some(live) => live.get_at(schema.key_values(row)).is_some(),
         }
@@ -80,7 +80,7 @@ impl LiveTables {
     pub fn digest(&self, alloc: Global, kind: DigestKind, table: u32, span: &Span) -> R<Digest>
         ensures { IfOk result (λ digest. digest ≡ digest_of kind (chunk_rows self.now.schemas self.now.tables table span.now)) }
     {
-        match self.tables.get(table as usize) {
+        match table_at(self.tables.as_slice(), table) {
             None => Ok(empty_digest()),
             Some(live) => digest_rows(alloc, kind, live, span),
         }
@@ -99,6 +99,13 @@ impl LiveTables {
         };
         change_table(alloc, statement, schema, &mut self.tables[table as usize])
     }
+}
+
+/// The table of this number, if there is one.
+fn table_at(tables: &[Table], table: u32) -> Option<&Table>
+    ensures { option_copied result ≡ slice_get tables.now table }
+{
+    tables.get(table as usize)
 }
 
 /// A table for each schema, of copies of these rows.
@@ -128,7 +135,7 @@ fn change_table(
     requires sound { IsSound schema.now table.old.key_len table.old.rows }
     ensures ok { OnOk result (table.new.rows ≡ rows_after schema.now statement.now table.old.rows) }
     ensures err { OnErr result (table.new.rows ≡ table.old.rows) }
-    ensures key_len { table.new.key_len ≡ table.old.key_len }
+    ensures sound { IsSound schema.now table.new.key_len table.new.rows }
 {
     let change = planned(alloc, statement, schema, table)?;
     table.reserve(change.room)?;

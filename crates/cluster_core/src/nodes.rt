@@ -1,8 +1,10 @@
-ghost use Rattle.std.specs.Prelude.{◌≡◌, ◌++◌, [], ◌∷◌, unwrap_or, is_some, ◌<◌, vec_len, vec_capacity, IfOk, OnOk, OnErr};
+ghost use Rattle.std.specs.Prelude.{◌≡◌, ◌++◌, [], ◌∷◌, unwrap_or, is_some, ◌≤◌, IfOk, OnOk, OnErr};
 ghost use Rattle.std.specs.List.{AllByRecursion};
 ghost use Rattle.row_types.specs.Fit.{IsSchema, AreTables};
 ghost use Rattle.ptc_statement.specs.Fits.{FitsSchemas};
-ghost use Rattle.history.specs.Replay.{applied_of, checks_after, position_of, tables_after};
+ghost use Rattle.history.specs.Replay.{applied_of, checks_after, position_of};
+ghost use Rattle.cluster_core.specs.Good.{IsOneFitting, IsOneStatement};
+ghost use Rattle.cluster_core.specs.LiveTables.{changed_by};
 ghost use Rattle.cluster_core.specs.Node.{replayed_of, logged, row_on};
 
 use crate::live_tables::LiveTables;
@@ -70,13 +72,8 @@ impl Node {
         let position = position_from(self.history.len() + 1, &origin);
         let applied = position_from(self.applied, &origin);
         let checks = checks_of(self.alloc, &self.live, &self.checks, position, &statement)?;
-        enter(
-            self.alloc,
-            &mut self.history,
-            &mut self.live,
-            origin,
-            statement,
-        )?;
+        let entry = entry_of(self.alloc, origin, statement)?;
+        enter(self.alloc, &mut self.history, &mut self.live, entry)?;
         put_checks(&mut self.checks, checks);
         self.applied = applied;
         Ok(())
@@ -140,41 +137,49 @@ fn position_from(number: u64, origin: &Origin) -> u64
     }
 }
 
-/// Does a statement to the live tables and puts it at the end of the history, as an entry of its own;
-/// a refusal leaves both.
-fn enter(
-    alloc: Global,
-    history: &mut Log,
-    live: &mut LiveTables,
-    origin: Origin,
-    statement: Statement,
-) -> R<()>
-    requires { FitsSchemas live.old.schemas statement }
-    ensures history { OnOk result (history.new.entries ≡ history.old.entries ++ record { origin = origin; statements = statement ∷ [] } ∷ []) }
-    ensures live { OnOk result (live.new ≡ record live.old { tables = tables_after live.old.schemas statement live.old.tables }) }
+/// The entry of one statement.
+fn entry_of(alloc: Global, origin: Origin, statement: Statement) -> R<Entry>
+    ensures { IfOk result (λ entry. entry ≡ record { origin = origin; statements = statement ∷ [] }) }
+{
+    let mut statements = Statements::new(alloc);
+    statements.push(statement)?;
+    Ok(Entry { origin, statements })
+}
+
+/// Does an entry's statement to the live tables, and puts the entry at the end of the history; a refusal
+/// leaves both.
+fn enter(alloc: Global, history: &mut Log, live: &mut LiveTables, entry: Entry) -> R<()>
+    requires { IsOneFitting live.old.schemas entry }
+    ensures history { OnOk result (history.new.entries ≡ history.old.entries ++ entry ∷ []) }
+    ensures live { OnOk result (live.new ≡ changed_by entry.statements live.old) }
     ensures history_left { OnErr result (history.new.entries ≡ history.old.entries) }
     ensures live_left { OnErr result (live.new ≡ live.old) }
 {
     history.reserve()?;
-    let mut items = Vec::new(alloc);
-    items.reserve(1)?;
-    live.change(alloc, &statement)?;
-    put_only(&mut items, statement);
-    let statements = Statements { items };
-    match history.append(Entry { origin, statements }) {
-        Ok(_) => Ok(()),
-        Err(_) => unreachable!(),
+    change_by(alloc, live, &entry.statements)?;
+    append_reserved(history, entry);
+    Ok(())
+}
+
+/// Does the one statement of an entry to the live tables; a refusal leaves them.
+fn change_by(alloc: Global, live: &mut LiveTables, statements: &Statements) -> R<()>
+    requires { IsOneStatement live.old.schemas statements.now }
+    ensures ok { OnOk result (live.new ≡ changed_by statements.now live.old) }
+    ensures err { OnErr result (live.new ≡ live.old) }
+{
+    match statements.as_slice() {
+        [statement] => live.change(alloc, statement),
+        _ => unreachable!(),
     }
 }
 
-/// Puts a statement into an empty list with room for it.
-fn put_only(items: &mut Vec<Statement>, statement: Statement)
-    requires empty { items.old.items ≡ [] }
-    requires room { vec_len items.old < vec_capacity items.old }
-    ensures { items.new.items ≡ statement ∷ [] }
+/// Puts an entry at the end of a history that has room for it.
+fn append_reserved(history: &mut Log, entry: Entry)
+    requires { 1 ≤ history.old.spare }
+    ensures { history.new.entries ≡ history.old.entries ++ entry ∷ [] }
 {
-    match items.push(statement) {
-        Ok(()) => {}
+    match history.append(entry) {
+        Ok(_) => {}
         Err(_) => unreachable!(),
     }
 }

@@ -420,7 +420,7 @@ fn apply_next(alloc: Global, log: &Log, node: &mut Node) -> R<bool>
     ensures err { OnErr result (node.new ≡ node.old) }
 {
     let applied = node.applied();
-    let Some(entry) = log.get(applied + 1) else {
+    let Some(entry) = log.as_slice().get(applied as usize) else {
         return Ok(false);
     };
     match entry.statements.as_slice() {
