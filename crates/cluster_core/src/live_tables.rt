@@ -125,12 +125,7 @@ fn tables_of(alloc: Global, schemas: &SchemaList, start: &Tables) -> R<Vec<Table
 }
 
 /// Does a statement to a table of its schema; a refusal leaves the rows as they were.
-fn change_table(
-    alloc: Global,
-    statement: &Statement,
-    schema: &Schema,
-    table: &mut Table,
-) -> R<()>
+fn change_table(alloc: Global, statement: &Statement, schema: &Schema, table: &mut Table) -> R<()>
     requires statement { StatementFits schema.now statement.now }
     requires sound { IsSound schema.now table.old.key_len table.old.rows }
     ensures ok { OnOk result (table.new.rows ≡ rows_after schema.now statement.now table.old.rows) }

@@ -9,7 +9,9 @@ ghost use Rattle.cluster_core.specs.Report.{rows_equal as rows_equal_in};
 
 use crate::live_tables::LiveTables;
 use crate::statement_texts::push_statement;
-use crate::texts::{name_of, push_bytes, push_name, push_number, push_span, push_table, push_tuple};
+use crate::texts::{
+    name_of, push_bytes, push_name, push_number, push_span, push_table, push_tuple,
+};
 use ordered_table::Table;
 use ptc_statement::{Statement, Statements};
 use row_types::{R, Row, Rows, SchemaList, Span, Tables};
@@ -189,12 +191,7 @@ pub(crate) fn push_replica_tables(
 }
 
 #[tactic(auto, unfolding(crate::specs::Report::origin_text))]
-fn push_origin(
-    alloc: Global,
-    out: &mut Vec<u8>,
-    schemas: &SchemaList,
-    origin: &Origin,
-) -> R<()>
+fn push_origin(alloc: Global, out: &mut Vec<u8>, schemas: &SchemaList, origin: &Origin) -> R<()>
     ensures { OnOk result (out.new.items ≡ out.old.items ++ origin_text schemas.now origin.now) }
 {
     match origin {
@@ -300,12 +297,7 @@ fn push_entry(
 }
 
 /// The entries of the log, numbered from 1.
-pub(crate) fn push_log(
-    alloc: Global,
-    out: &mut Vec<u8>,
-    schemas: &SchemaList,
-    log: &Log,
-) -> R<()>
+pub(crate) fn push_log(alloc: Global, out: &mut Vec<u8>, schemas: &SchemaList, log: &Log) -> R<()>
     ensures { OnOk result (out.new.items ≡ out.old.items ++ log_lines schemas.now 1 log.now.entries) }
 {
     for (index, entry) in log.as_slice().iter().enumerate() {

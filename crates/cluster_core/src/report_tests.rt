@@ -313,9 +313,7 @@ fn tables_are_compared(rt: HostRuntime) -> Result<(), Fail> {
 #[test]
 fn each_origin_is_written(rt: HostRuntime) -> Result<(), Fail> {
     let text = repair_log(rt.alloc())?;
-    assert!(rt;
-        text.as_slice() == b"LOG 1 y2 t FROM LOW TO AFTER (1, 'a''b')\n".as_slice()
-    );
+    assert!(rt; text.as_slice() == b"LOG 1 y2 t FROM LOW TO AFTER (1, 'a''b')\n".as_slice());
     let text = history(rt.alloc(), Origin::Local(4))?;
     assert!(rt; text.as_slice() == b"HISTORY r3 local r3.l4\n  CLEARCHECKS t\n".as_slice());
     let text = history(rt.alloc(), Origin::Applied(9))?;

@@ -10,9 +10,9 @@ ghost use Rattle.cluster_core.specs.Sessions.{is_duplicate as is_duplicate_on};
 ghost use Rattle.ptc_statement.specs.Fits.{FitsSchemas};
 
 use crate::nodes::Node;
-use statement_log::Origin;
 use ptc_statement::{Script, ScriptLine, ScriptStep, Statement};
 use row_types::R;
+use statement_log::Origin;
 use std::alloc::Global;
 use std::marker::Model;
 
