@@ -28,6 +28,8 @@ pub use workload::{Copies, Workload};
 pub use worlds::{RunReport, World};
 
 #[cfg(test)]
+mod copy_tests;
+#[cfg(test)]
 mod report_tests;
 #[cfg(test)]
 mod statement_text_tests;

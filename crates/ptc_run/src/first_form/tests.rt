@@ -368,3 +368,18 @@ fn finds_early_items(rt: HostRuntime) -> Result<(), Fail> {
     }
     Ok(())
 }
+
+/// A copy of a fault is the same fault.
+#[test]
+fn faults_are_copied(rt: HostRuntime) {
+    let limit = FileFault::Limit {
+        which: LimitKind::Bytes,
+        got: 16777217,
+    };
+    for fault in [FileFault::Early { number: 3 }, limit, FileFault::Memory] {
+        let copy = fault.copy(rt.alloc()).expect(&rt, "memory");
+        assert!(rt; copy.same(&fault) && !copy.same(&FileFault::Early { number: 4 }));
+    }
+    let kind = LimitKind::Bytes.copy(rt.alloc()).expect(&rt, "memory");
+    assert!(rt; kind.same(&LimitKind::Bytes));
+}
