@@ -41,7 +41,9 @@ fn third_row(alloc: Global) -> R<Row>
     Ok(row)
 }
 
-fn no_rows() -> Digest {
+fn no_rows() -> Digest
+    ensures { result.count ≡ 0 }
+{
     Digest {
         count: 0,
         xor: [0; 20],
