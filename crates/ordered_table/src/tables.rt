@@ -59,6 +59,18 @@ impl Table {
         })
     }
 
+    /// A table of the same rows; none are spare.
+    pub fn copy(&self, alloc: Global) -> R<Table>
+        ensures { IfOk result (λ copy. copy ≡ record self.now { spare = 0 }) }
+    {
+        let Rows { items } = copies(alloc, self.rows.as_slice())?;
+        Ok(Table {
+            rows: items,
+            key_len: self.key_len,
+            spare: 0,
+        })
+    }
+
     /// How many values a key has: one or two.
     pub fn key_len(&self) -> u8
         ensures value { result ≡ self.now.key_len }
