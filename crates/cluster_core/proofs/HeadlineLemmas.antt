@@ -31,12 +31,12 @@ use Rattle.cluster_core.specs.declared.report_verdicts.VerdictLine.{VerdictLine}
 use Rattle.cluster_core.specs.Report.{verdict_line, all_chunks, replica_verdicts, verdicts_from, verdicts_of}
 use Rattle.cluster_core.specs.Turns.{IsNumbered, ItemIsNumbered}
 use Rattle.cluster_core.specs.Headline.{LineHolds, IsOfWholeTable, HasLine, AppliedAll, logged_by, IsTools, IsOwnedBy, EachRefusedTruly, LoggedTruly, RunHolds}
-use Rattle.cluster_core.specs.Workload.{StepFits, IsWorkload}
-use Rattle.cluster_core.specs.declared.workload.Workload.{Workload}
-use Rattle.cluster_core.specs.declared.actors.Actor.{Actor}
-use Rattle.cluster_core.specs.declared.actors.Actor.TheVariants.{Session, Tool, Worker}
-use Rattle.cluster_core.specs.declared.schedule.Item.{Item}
-use Rattle.cluster_core.specs.declared.schedule.Item.TheVariants.{Turn}
+use Rattle.workload_file.specs.Workload.{StepFits, IsWorkload}
+use Rattle.workload_file.specs.declared.workload.Workload.{Workload}
+use Rattle.workload_file.specs.declared.actors.Actor.{Actor}
+use Rattle.workload_file.specs.declared.actors.Actor.TheVariants.{Session, Tool, Worker}
+use Rattle.workload_file.specs.declared.schedule.Item.{Item}
+use Rattle.workload_file.specs.declared.schedule.Item.TheVariants.{Turn}
 use Rattle.cluster_core.specs.declared.actors.ToolPhase.{ToolPhase}
 use Rattle.cluster_core.specs.declared.actors.ToolPhase.TheVariants.{Clear, Check, Master, Finished}
 use Rattle.cluster_core.proofs.EachLemmas.{each_more, each_append, each_first, each_rest, each_at, each_set, each_map, each_always, map_set_same, map_back, map_after, slice_get_none, LastFrom, last_all, last_first, last_more}

@@ -16,15 +16,15 @@ use Rattle.cluster_core.proofs.MoveLemmas.{slice_get-within}
 use Rattle.cluster_core.specs.Node.{NodeView, logged}
 use Rattle.row_types.specs.declared.values.Value.{Value}
 use Rattle.ptc_statement.specs.declared.scripts.Script.{Script}
-use Rattle.cluster_core.specs.declared.workload.Workload.{Workload}
-use Rattle.cluster_core.specs.Workload.{StepFits, ScriptFits, ItemFits, IsWorkload}
+use Rattle.workload_file.specs.declared.workload.Workload.{Workload}
+use Rattle.workload_file.specs.Workload.{StepFits, ScriptFits, ItemFits, IsWorkload}
 use Rattle.cluster_core.specs.Sessions.{SessionView, unstarted, is_duplicate, by_session, step_left, line_left}
 use Rattle.cluster_core.specs.World.{WorldView, fresh, session_turn, line_turn, with_session}
 use Rattle.cluster_core.specs.Good.{IsOneFitting, StepsFit, HasSchemas}
 use Rattle.cluster_core.specs.Turns.{Takes, ItemIsNumbered}
-use Rattle.cluster_core.specs.declared.actors.Actor.TheVariants.{Session, Tool, Worker}
-use Rattle.cluster_core.specs.declared.schedule.Item.{Item}
-use Rattle.cluster_core.specs.declared.schedule.Item.TheVariants.{Turn}
+use Rattle.workload_file.specs.declared.actors.Actor.TheVariants.{Session, Tool, Worker}
+use Rattle.workload_file.specs.declared.schedule.Item.{Item}
+use Rattle.workload_file.specs.declared.schedule.Item.TheVariants.{Turn}
 
 -- a statement that fits any schema fits these
 pub fits_all : (schemas : List Schema) (statement : Statement) → ((schema : Schema) → StatementFits schema statement) → FitsSchemas schemas statement

@@ -22,8 +22,8 @@ use Rattle.cluster_core.specs.Node.{NodeView, logged, replayed_of}
 use Rattle.cluster_core.specs.Sessions.{SessionView, is_duplicate, by_session, step_left}
 use Rattle.cluster_core.specs.World.{WorldView, with_session, line_turn, session_turn, tool_turn_in, tool_logged, published, next_phase, next_applied, whole_table, worker_turn, turn, step}
 use Rattle.cluster_core.specs.Turns.{Takes, entries_left, lags, lines_left, turns_left}
-use Rattle.cluster_core.specs.declared.actors.Actor.{Actor}
-use Rattle.cluster_core.specs.declared.actors.Actor.TheVariants.{Session, Tool, Worker}
+use Rattle.workload_file.specs.declared.actors.Actor.{Actor}
+use Rattle.workload_file.specs.declared.actors.Actor.TheVariants.{Session, Tool, Worker}
 use Rattle.cluster_core.specs.declared.actors.ToolPhase.{ToolPhase}
 use Rattle.cluster_core.specs.declared.actors.ToolPhase.TheVariants.{Clear, Check, Master, Finished}
 

@@ -12,12 +12,12 @@ use Rattle.cluster_core.specs.Node.{NodeView}
 use Rattle.cluster_core.specs.Sessions.{SessionView, unstarted}
 use Rattle.cluster_core.specs.World.{WorldView, fresh, begun, turn, move, behind_item, step, played, sessions_from, workers_from, order, round, rounds, IsStill, EndsIn, Reaches}
 use Rattle.cluster_core.specs.Turns.{Takes, Plays, TookTurns, lags, lines_left, turns_left, moves_of, lines_of, most_moves}
-use Rattle.cluster_core.specs.Workload.{IsWorkload}
-use Rattle.cluster_core.specs.declared.workload.Workload.{Workload}
-use Rattle.cluster_core.specs.declared.actors.Actor.{Actor}
-use Rattle.cluster_core.specs.declared.actors.Actor.TheVariants.{Session, Tool, Worker}
-use Rattle.cluster_core.specs.declared.schedule.Item.{Item}
-use Rattle.cluster_core.specs.declared.schedule.Item.TheVariants.{Turn}
+use Rattle.workload_file.specs.Workload.{IsWorkload}
+use Rattle.workload_file.specs.declared.workload.Workload.{Workload}
+use Rattle.workload_file.specs.declared.actors.Actor.{Actor}
+use Rattle.workload_file.specs.declared.actors.Actor.TheVariants.{Session, Tool, Worker}
+use Rattle.workload_file.specs.declared.schedule.Item.{Item}
+use Rattle.workload_file.specs.declared.schedule.Item.TheVariants.{Turn}
 use Rattle.cluster_core.proofs.MoveLemmas.{turn_nearer, turn_unplayed}
 
 -- from a world to itself, by no item

@@ -7,7 +7,7 @@ use Rattle.ptc_statement.specs.declared.scripts.ScriptLine.{ScriptLine}
 use Rattle.ptc_statement.specs.Fits.{FitsSchemas}
 use Rattle.statement_log.specs.declared.entries.Entry.{Entry}
 use Rattle.cluster_core.specs.Node.{NodeView}
-use Rattle.cluster_core.specs.Workload.{StepFits}
+use Rattle.workload_file.specs.Workload.{StepFits}
 use Rattle.cluster_core.specs.Sessions.{SessionView}
 
 -- one statement, which fits

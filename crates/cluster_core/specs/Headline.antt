@@ -23,7 +23,7 @@ use Rattle.cluster_core.specs.World.{WorldView, whole_table}
 use Rattle.cluster_core.specs.Report.{verdicts_of}
 use Rattle.cluster_core.specs.declared.report_verdicts.VerdictLine.{VerdictLine}
 use Rattle.cluster_core.specs.declared.actors.ToolPhase.TheVariants.{Finished}
-use Rattle.cluster_core.specs.declared.workload.Workload.{Workload}
+use Rattle.workload_file.specs.declared.workload.Workload.{Workload}
 
 -- a VERDICT line compares these two lists of rows, by digests of this kind
 pub record LineCompares (line : VerdictLine) (kind : DigestKind) (source_rows replica_rows : List (List Value)) : Type 0 where

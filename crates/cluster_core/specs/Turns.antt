@@ -6,11 +6,11 @@ use Rattle.history.specs.Replay.{applied_of}
 use Rattle.cluster_core.specs.Node.{NodeView}
 use Rattle.cluster_core.specs.Sessions.{SessionView}
 use Rattle.cluster_core.specs.World.{WorldView, move, step, played}
-use Rattle.cluster_core.specs.declared.workload.Workload.{Workload}
-use Rattle.cluster_core.specs.declared.actors.Actor.{Actor}
-use Rattle.cluster_core.specs.declared.actors.Actor.TheVariants.{Session, Tool, Worker}
-use Rattle.cluster_core.specs.declared.schedule.Item.{Item}
-use Rattle.cluster_core.specs.declared.schedule.Item.TheVariants.{Turn}
+use Rattle.workload_file.specs.declared.workload.Workload.{Workload}
+use Rattle.workload_file.specs.declared.actors.Actor.{Actor}
+use Rattle.workload_file.specs.declared.actors.Actor.TheVariants.{Session, Tool, Worker}
+use Rattle.workload_file.specs.declared.schedule.Item.{Item}
+use Rattle.workload_file.specs.declared.schedule.Item.TheVariants.{Turn}
 use Rattle.cluster_core.specs.declared.actors.ToolPhase.{ToolPhase}
 use Rattle.cluster_core.specs.declared.actors.ToolPhase.TheVariants.{Clear, Check, Master, Finished}
 

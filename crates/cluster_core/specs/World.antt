@@ -15,13 +15,13 @@ use Rattle.checksum_table.specs.Checks.{check_at}
 use Rattle.history.specs.Replay.{applied_of, applying}
 use Rattle.cluster_core.specs.Node.{NodeView, replayed_of, logged}
 use Rattle.cluster_core.specs.Sessions.{SessionView, unstarted, line_left}
-use Rattle.cluster_core.specs.declared.workload.Workload.{Workload}
-use Rattle.cluster_core.specs.declared.actors.Actor.{Actor}
-use Rattle.cluster_core.specs.declared.actors.Actor.TheVariants.{Session, Tool, Worker}
+use Rattle.workload_file.specs.declared.workload.Workload.{Workload}
+use Rattle.workload_file.specs.declared.actors.Actor.{Actor}
+use Rattle.workload_file.specs.declared.actors.Actor.TheVariants.{Session, Tool, Worker}
 use Rattle.cluster_core.specs.declared.actors.ToolPhase.{ToolPhase}
 use Rattle.cluster_core.specs.declared.actors.ToolPhase.TheVariants.{Clear, Check, Master, Finished}
-use Rattle.cluster_core.specs.declared.schedule.Item.{Item}
-use Rattle.cluster_core.specs.declared.schedule.Item.TheVariants.{Turn}
+use Rattle.workload_file.specs.declared.schedule.Item.{Item}
+use Rattle.workload_file.specs.declared.schedule.Item.TheVariants.{Turn}
 
 -- the source, the replicas and the sessions by rising number, what the checksum tool does next, and
 -- the items of the schedule that are not played yet

@@ -1,10 +1,10 @@
 ghost use Rattle.std.specs.Prelude.{◌≡◌, ◌≤◌, List};
 ghost use Rattle.cluster_core.specs.Headline.{RunHolds};
-ghost use Rattle.cluster_core.specs.Workload.{IsWorkload};
+ghost use Rattle.workload_file.specs.Workload.{IsWorkload};
 ghost use Rattle.cluster_core.specs.World.{WorldView, begun, EndsIn};
 ghost use Rattle.cluster_core.specs.Turns.{moves_of, most_moves};
-ghost use Rattle.cluster_core.specs.declared.schedule.Item.{Item};
-ghost use Rattle.cluster_core.specs.declared.workload.Workload.{Workload};
+ghost use Rattle.workload_file.specs.declared.schedule.Item.{Item};
+ghost use Rattle.workload_file.specs.declared.workload.Workload.{Workload};
 
 /// Whatever workload a run begins from, and whatever its schedule, at its end each replica applied the whole log, each session's
 /// entries of the log are its script's statements without its duplicates, each published checksum is

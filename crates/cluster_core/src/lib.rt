@@ -11,20 +11,17 @@ mod report_duplicates;
 pub mod report_laws;
 mod report_nodes;
 pub mod report_verdicts;
-pub mod schedule;
 pub mod sessions;
 mod statement_texts;
 pub mod texts;
-pub mod workload;
 pub mod worlds;
 
-pub use actors::{Actor, ToolPhase};
+pub use actors::ToolPhase;
 pub use live_tables::LiveTables;
 pub use nodes::Node;
 pub use report_verdicts::VerdictLine;
-pub use schedule::{Item, Schedule};
 pub use sessions::Session;
-pub use workload::{Copies, Workload};
+pub use workload_file::{Actor, Copies, Item, Schedule, Workload};
 pub use worlds::{RunReport, World};
 
 #[cfg(test)]

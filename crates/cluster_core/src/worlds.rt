@@ -3,7 +3,7 @@ ghost use Rattle.std.specs.List.{AllByRecursion, slice_get};
 ghost use Rattle.row_types.specs.Fit.{IsSchema, AreTables};
 ghost use Rattle.checksum_table.specs.Checks.{check_at};
 ghost use Rattle.cluster_core.specs.Node.{replayed_of};
-ghost use Rattle.cluster_core.specs.Workload.{IsWorkload};
+ghost use Rattle.workload_file.specs.Workload.{IsWorkload};
 ghost use Rattle.cluster_core.specs.Sessions.{unstarted};
 ghost use Rattle.cluster_core.specs.World.{begun, fresh, session_turn, sessions_from, turn, tool_turn, worker_turn, tool_logged, published, next_phase, next_applied, behind_item, played, order, EndsIn, Reaches};
 ghost use Rattle.cluster_core.specs.Report.{report_of, status_of, starts_text, histories_text, verdicts_text, finals_text};
@@ -12,21 +12,20 @@ ghost use Rattle.ptc_statement.specs.Fits.{StatementFits};
 ghost use Rattle.row_types.specs.declared.table_schema.Schema.{Schema};
 ghost use Rattle.cluster_core.specs.Turns.{IsNumbered, ItemIsNumbered, Takes, Plays, TookTurns};
 
-use crate::actors::{Actor, ToolPhase};
+use crate::actors::ToolPhase;
 use crate::nodes::Node;
 use crate::report::{push_head, push_live_tables, push_log, push_status, push_tables};
 use crate::report_nodes::{
     push_each_duplicate, push_each_equal, push_each_final, push_each_history, push_each_start,
     push_each_verdict,
 };
-use crate::schedule::{Item, Schedule};
 use crate::sessions::Session;
-use crate::workload::Workload;
 use ptc_statement::{Script, Statement};
 use row_types::{Bytes, DigestKind, R, Schemas, Span, Tables};
 use statement_log::{Log, Origin};
 use std::alloc::Global;
 use std::marker::Model;
+use workload_file::{Actor, Item, Schedule, Workload};
 
 /// A source, its replicas, the clients' sessions and the checksum tool, and a schedule of their turns
 /// with how many of its items are played. Each turn does one whole statement or applies one whole

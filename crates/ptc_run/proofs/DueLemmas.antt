@@ -5,8 +5,8 @@ use Rattle.std.specs.List.{list_any}
 use Rattle.std.proofs.lemmas.List.{length-take, take_all, drop_all}
 use Rattle.std.proofs.lemmas.Bool.{ltb-true, ltb-false}
 use Rattle.ptc_io.specs.Bytes.{TakesUpTo, IsAtEnd}
-use Rattle.cluster_core.specs.declared.workload.Workload.{Workload}
-use Rattle.cluster_core.specs.Workload.{IsWorkload}
+use Rattle.workload_file.specs.declared.workload.Workload.{Workload}
+use Rattle.workload_file.specs.Workload.{IsWorkload}
 use Rattle.cluster_core.specs.World.{WorldView}
 use Rattle.cluster_core.specs.Report.{differs, verdicts_of, status_of}
 use Rattle.cluster_core.proofs.HeadlineLemmas.{each_run}

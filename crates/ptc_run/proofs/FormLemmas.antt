@@ -2,7 +2,7 @@
 use Rattle.std.proofs.Common.{◌≡◌, ◌⊎◌, ℕ, ◌+◌, ◌<◌, ◌≤◌, Option, None, List, [], ◌∷◌, ◌++◌, map, length, take, drop, refl, sym, ap, subst, ◌∙◌, append_assoc, append-nil, arith, inl, inr, take_at, length-append, take-append-drop, eq-or-lt_of_le}
 use Rattle.std.proofs.lemmas.Bool.{cases_lt}
 use Rattle.std.proofs.lemmas.List.{append_cancel_left, take-take}
-use Rattle.cluster_core.specs.declared.workload.Workload.{Workload}
+use Rattle.workload_file.specs.declared.workload.Workload.{Workload}
 use Rattle.ptc_run.specs.declared.row_lines.RowLine.{RowLine}
 use Rattle.ptc_run.specs.declared.script_lines.ScriptText.{ScriptText}
 use Rattle.ptc_run.specs.declared.schedule_lines.ScheduleWord.{ScheduleWord}

@@ -3,7 +3,7 @@ use Rattle.std.proofs.Common.{◌≡◌, ℕ, ◌+◌, ◌≤◌, Bool, true, fa
 use Rattle.std.specs.Prelude.{◌↔◌, IsTrue, codes, is_some}
 use Rattle.std.specs.List.{concat}
 use Rattle.std.proofs.lemmas.List.{map_push, length_push, length-map, flat_map_more}
-use Rattle.cluster_core.specs.declared.workload.Workload.{Workload}
+use Rattle.workload_file.specs.declared.workload.Workload.{Workload}
 use Rattle.ptc_run.specs.declared.row_lines.RowLine.{RowLine}
 use Rattle.ptc_run.specs.declared.kept_rows.Nodes.{Nodes}
 use Rattle.ptc_run.specs.declared.first_form.Parts.{Parts}
@@ -12,7 +12,7 @@ use Rattle.ptc_statement.specs.declared.scripts.Script.{Script}
 use Rattle.ptc_statement.specs.declared.scripts.ScriptLine.{ScriptLine}
 use Rattle.ptc_statement.specs.declared.statements.Statement.{Statement}
 use Rattle.ptc_statement.specs.declared.scripts.ScriptStep.TheVariants.{Run}
-use Rattle.cluster_core.specs.declared.schedule.Item.{Item}
+use Rattle.workload_file.specs.declared.schedule.Item.{Item}
 use Rattle.ptc_run.specs.declared.schedule_lines.ScheduleWord.{ScheduleWord}
 use Rattle.ptc_run.specs.ScriptLines.{script_line, session_line, session_lines, sessions_of, statement_of, numbered, NumbersFitScript, EndsScript}
 use Rattle.ptc_run.specs.ScriptReads.{StatementRead, StatementsRead, SessionsRead}

@@ -8,8 +8,8 @@ use Rattle.std.specs.Cmp.{int_cmp_total}
 use Rattle.row_types.specs.declared.values.Value.{Value}
 use Rattle.row_types.specs.declared.values.Value.TheVariants.{Int}
 use Rattle.row_types.specs.Fit.{with_rows, IsTable, IsBelowAll, IsSchema}
-use Rattle.cluster_core.specs.declared.workload.Workload.{Workload}
-use Rattle.cluster_core.specs.Workload.{IsWorkload, ScriptFits, StepFits, LinesRise, ItemFits}
+use Rattle.workload_file.specs.declared.workload.Workload.{Workload}
+use Rattle.workload_file.specs.Workload.{IsWorkload, ScriptFits, StepFits, LinesRise, ItemFits}
 use Rattle.row_types.specs.declared.table_schema.Schema.{Schema}
 use Rattle.row_types.specs.declared.table_schema.ColumnKind.TheVariants.{BigInt}
 use Rattle.ptc_statement.specs.declared.scripts.ScriptLine.{ScriptLine}

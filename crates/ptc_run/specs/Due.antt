@@ -1,7 +1,7 @@
 -- What is due for the words and the input: the text to be written, and the status that goes with it.
 use Rattle.std.specs.Prelude.{◌≡◌, ◌<◌, ◌≤◌, ◌⊎◌, ℕ, List, Option, Result, Ok, Err, length, IfSome}
 use Rattle.ptc_io.specs.Bytes.{Appends, AppendsFront}
-use Rattle.cluster_core.specs.declared.workload.Workload.{Workload}
+use Rattle.workload_file.specs.declared.workload.Workload.{Workload}
 use Rattle.cluster_core.specs.World.{WorldView, begun, EndsIn}
 use Rattle.cluster_core.specs.Report.{report_of, status_of}
 use Rattle.cluster_core.specs.Headline.{RunHolds}

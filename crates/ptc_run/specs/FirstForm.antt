@@ -7,7 +7,7 @@ use Rattle.row_types.specs.declared.values.Value.TheVariants.{Int}
 use Rattle.row_types.specs.declared.table_schema.ColumnKind.TheVariants.{BigInt}
 use Rattle.row_types.specs.declared.table_schema.Schema.{Schema}
 use Rattle.row_types.specs.Fit.{with_rows}
-use Rattle.cluster_core.specs.declared.workload.Workload.{Workload}
+use Rattle.workload_file.specs.declared.workload.Workload.{Workload}
 use Rattle.ptc_run.specs.declared.row_lines.RowLine.{RowLine}
 use Rattle.ptc_run.specs.declared.script_lines.ScriptText.{ScriptText}
 use Rattle.ptc_run.specs.declared.schedule_lines.ScheduleWord.{ScheduleWord}

@@ -10,10 +10,10 @@ use Rattle.ptc_run.specs.declared.first_form.Parts.{Parts}
 use Rattle.ptc_run.specs.declared.script_lines.ScriptText.{ScriptText}
 use Rattle.ptc_run.specs.declared.schedule_lines.ScheduleWord.{ScheduleWord}
 use Rattle.ptc_statement.specs.declared.scripts.Script.{Script}
-use Rattle.cluster_core.specs.declared.schedule.Item.{Item}
+use Rattle.workload_file.specs.declared.schedule.Item.{Item}
 use Rattle.ptc_run.specs.Lines.{lines_of}
 use Rattle.ptc_run.specs.RowLines.{row_line, is_for_source, is_for_replica}
-use Rattle.cluster_core.specs.declared.workload.Workload.{Workload}
+use Rattle.workload_file.specs.declared.workload.Workload.{Workload}
 use Rattle.ptc_run.specs.ScriptLines.{sessions_of}
 use Rattle.ptc_run.specs.ScheduleLines.{schedule_of}
 use Rattle.ptc_run.specs.FirstForm.{first_schema, text_lines, keys_of, table_of, source_rows, replica_rows, IsNotAmong, AllowedRows, Allowed}

@@ -1,6 +1,6 @@
 -- What is read of a schedule.
 use Rattle.std.specs.Prelude.{◌≡◌, ◌<◌, ◌+◌, ℕ, List, ◌∷◌, ◌++◌, Bool, length, map}
-use Rattle.cluster_core.specs.declared.schedule.Item.{Item}
+use Rattle.workload_file.specs.declared.schedule.Item.{Item}
 use Rattle.ptc_run.specs.declared.schedule_lines.ScheduleWord.{ScheduleWord}
 use Rattle.ptc_run.specs.Lines.{lines_of}
 use Rattle.ptc_run.specs.ScheduleLines.{schedule_line, word_text, schedule_of, AllowedWord, AllowedWords, AllowedSchedule, EndsSchedule}

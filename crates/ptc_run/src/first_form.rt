@@ -4,8 +4,8 @@ ghost use Rattle.std.specs.Prelude.{◌≡◌, ◌+◌, ◌<◌, ◌≤◌, ◌�
 ghost use Rattle.row_types.specs.declared.table_schema.Column.{Column as OneColumn};
 ghost use Rattle.row_types.specs.declared.table_schema.ColumnKind.TheVariants.{BigInt};
 ghost use Rattle.row_types.specs.declared.table_schema.Schemas.{Schemas as AllSchemas};
-ghost use Rattle.cluster_core.specs.declared.workload.Workload.{Workload as WholeWorkload};
-ghost use Rattle.cluster_core.specs.Workload.{IsWorkload};
+ghost use Rattle.workload_file.specs.declared.workload.Workload.{Workload as WholeWorkload};
+ghost use Rattle.workload_file.specs.Workload.{IsWorkload};
 ghost use Rattle.ptc_run.specs.Lines.{lines_of};
 ghost use Rattle.ptc_run.specs.FirstForm.{head_lines, first_schema, IsWorkloadText, IsEarly};
 ghost use Rattle.ptc_run.specs.KeptRows.{PartsRead, RowsRead, workload_in};
@@ -15,7 +15,7 @@ use crate::kept_rows::{Nodes, rows_from};
 use crate::line_cuts::behind_line;
 use crate::schedule_lines::read_schedule;
 use crate::script_lines::read_sessions;
-use cluster_core::{Copies, Schedule, Workload};
+use workload_file::{Copies, Schedule, Workload};
 use ptc_statement::Scripts;
 use row_types::{
     Bytes, Column, ColumnKind, Columns, Memory, R, Schema, SchemaList, Schemas, Tables,

@@ -6,7 +6,7 @@ ghost use Rattle.ptc_run.specs.ScheduleLines.{schedule_line, item_of, items_of, 
 ghost use Rattle.ptc_run.specs.ScheduleReads.{BeginsNoWord, WordRead, WordsRead, ScheduleRead};
 
 use crate::line_cuts::{behind, first_line};
-use cluster_core::{Actor, Item, Schedule};
+use workload_file::{Actor, Item, Schedule};
 use row_types::R;
 use std::alloc::Global;
 

@@ -1,7 +1,7 @@
 //! The top call: from the words and the bytes of the input to the bytes of the output.
 ghost use Rattle.std.specs.Prelude.{◌≡◌, ◌<◌, ◌≤◌, ◌⊎◌, List, ℕ, Some, Ok, Err, map, string_bytes, length, take, IfOk, IfSome};
-ghost use Rattle.cluster_core.specs.declared.workload.Workload.{Workload as WholeWorkload};
-ghost use Rattle.cluster_core.specs.Workload.{IsWorkload};
+ghost use Rattle.workload_file.specs.declared.workload.Workload.{Workload as WholeWorkload};
+ghost use Rattle.workload_file.specs.Workload.{IsWorkload};
 ghost use Rattle.ptc_io.specs.Faults.{HasRisen};
 ghost use Rattle.ptc_io.specs.Bytes.{IsAtEnd};
 ghost use Rattle.ptc_run.specs.FirstForm.{IsWorkloadText};
@@ -10,7 +10,8 @@ ghost use Rattle.ptc_run.specs.Due.{Due, FileDue, Reports, WroteDue, WroteFront,
 use crate::first_form;
 use crate::first_form::FileFault;
 use crate::words::{read_words, refuse_bytes, refuse_line, refuse_words};
-use cluster_core::{Workload, World};
+use cluster_core::World;
+use workload_file::Workload;
 use ptc_io::{ReadFault, Sink, Source, Status, read_to_limit, write_all};
 use row_types::{Bytes, Memory, R};
 use std::alloc::Global;

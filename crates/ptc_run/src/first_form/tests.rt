@@ -1,5 +1,5 @@
 use super::*;
-use cluster_core::{Actor, Item};
+use workload_file::{Actor, Item};
 use ptc_statement::{Assignment, Cond, Expr, Op, ScriptStep, Sets, Statement};
 use row_types::{Row, Value};
 use std::test::*;

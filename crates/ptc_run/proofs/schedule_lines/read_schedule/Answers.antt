@@ -1,6 +1,6 @@
 use Rattle.std.proofs.Common.{List, ◌++◌, ap, ◌∙◌}
 use Rattle.std.proofs.lemmas.Option.{MatchOption-at_some}
-use Rattle.cluster_core.specs.declared.schedule.Item.{Item}
+use Rattle.workload_file.specs.declared.schedule.Item.{Item}
 use Rattle.ptc_run.specs.declared.schedule_lines.ScheduleWord.{ScheduleWord}
 use Rattle.ptc_run.specs.ScheduleLines.{items_of}
 use Rattle.ptc_run.proofs.ReadLemmas.{words_taken}

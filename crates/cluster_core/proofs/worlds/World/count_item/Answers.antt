@@ -1,6 +1,6 @@
 use Rattle.std.proofs.Common.{List, drop, ap, ◌∙◌}
 use Rattle.cluster_core.specs.World.{WorldView, behind_item}
-use Rattle.cluster_core.specs.declared.schedule.Item.{Item}
+use Rattle.workload_file.specs.declared.schedule.Item.{Item}
 use Rattle.cluster_core.proofs.KeptLemmas.{drop_next}
 use Rattle.cluster_core.proofs.worlds.World.count_item.Goals as goal
 

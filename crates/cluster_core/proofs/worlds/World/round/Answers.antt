@@ -1,7 +1,7 @@
 use Rattle.std.proofs.Common.{arith, ap, length, ◌∷◌, ◌++◌, take}
 use Rattle.cluster_core.specs.World.{WorldView, sessions_from, workers_from}
-use Rattle.cluster_core.specs.declared.actors.Actor.TheVariants.{Tool}
-use Rattle.cluster_core.specs.declared.schedule.Item.TheVariants.{Turn}
+use Rattle.workload_file.specs.declared.actors.Actor.TheVariants.{Tool}
+use Rattle.workload_file.specs.declared.schedule.Item.TheVariants.{Turn}
 use Rattle.cluster_core.proofs.RunLemmas.{took_tool, took_worker, took_reaches, reaches_none, reaches_more, on_err_of}
 use Rattle.cluster_core.proofs.worlds.World.round.Goals as goal
 

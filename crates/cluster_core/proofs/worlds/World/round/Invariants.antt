@@ -1,8 +1,8 @@
 use Rattle.std.proofs.Common.{◌∷◌, ◌++◌, take}
 use Rattle.cluster_core.specs.World.{sessions_from, workers_from}
 use Rattle.cluster_core.specs.Turns.{TookTurns}
-use Rattle.cluster_core.specs.declared.actors.Actor.TheVariants.{Tool}
-use Rattle.cluster_core.specs.declared.schedule.Item.TheVariants.{Turn}
+use Rattle.workload_file.specs.declared.actors.Actor.TheVariants.{Tool}
+use Rattle.workload_file.specs.declared.schedule.Item.TheVariants.{Turn}
 use Rattle.cluster_core.proofs.worlds.World.round.Given as goal
 
 abbrev pub invariant-loop-place : goal.invariant-loop-place

@@ -33,7 +33,7 @@ pub struct Schedule {
 
 impl Model for Schedule {
     ghost use Rattle.std.specs.Prelude.{List};
-    ghost use Rattle.cluster_core.specs.declared.schedule.Item.{Item as OneItem};
+    ghost use Rattle.workload_file.specs.declared.schedule.Item.{Item as OneItem};
 
     ghost Value = { List OneItem };
 

@@ -9,11 +9,11 @@ use Rattle.ptc_statement.specs.declared.scripts.ScriptStep.TheVariants.{Begin, C
 use Rattle.ptc_statement.specs.Effect.{is_logged}
 use Rattle.ptc_statement.specs.Fits.{IsClients, FitsSchemas}
 use Rattle.row_types.specs.Fit.{IsSchema, AreTables}
-use Rattle.cluster_core.specs.declared.actors.Actor.{Actor}
-use Rattle.cluster_core.specs.declared.actors.Actor.TheVariants.{Session, Tool, Worker}
-use Rattle.cluster_core.specs.declared.schedule.Item.{Item}
-use Rattle.cluster_core.specs.declared.schedule.Item.TheVariants.{Turn}
-use Rattle.cluster_core.specs.declared.workload.Workload.{Workload}
+use Rattle.workload_file.specs.declared.actors.Actor.{Actor}
+use Rattle.workload_file.specs.declared.actors.Actor.TheVariants.{Session, Tool, Worker}
+use Rattle.workload_file.specs.declared.schedule.Item.{Item}
+use Rattle.workload_file.specs.declared.schedule.Item.TheVariants.{Turn}
+use Rattle.workload_file.specs.declared.workload.Workload.{Workload}
 
 -- a client's statement that is logged and fits; until transactions run row by row each is one of its
 -- own, so a script has none of their words
