@@ -151,9 +151,11 @@ StatementFits schema (Check table chunk span kind) = Unit {0}
 StatementFits schema (SetMaster table chunk kind master) = Unit {0}
 StatementFits schema (ClearChecks table) = Unit {0}
 
--- it fits the schema of its table
-abbrev pub FitsSchemas : List Schema → Statement → Type 0
-FitsSchemas schemas statement = (schema : Schema) → slice_get schemas (table_of statement) ≡ Some schema → StatementFits schema statement
+-- its table is one of theirs, and it fits that table's schema
+pub record FitsSchemas (schemas : List Schema) (statement : Statement) : Type 0 where
+  pub schema : Schema
+  pub found : slice_get schemas (table_of statement) ≡ Some schema
+  pub fits : StatementFits schema statement
 
 -- a client's statement, and not one of the checksum tool's
 abbrev pub IsClients : Statement → Type 0
@@ -165,3 +167,7 @@ IsClients (LockRead table mode span where_true) = Unit {0}
 IsClients (Check table chunk span kind) = ⊥
 IsClients (SetMaster table chunk kind master) = ⊥
 IsClients (ClearChecks table) = ⊥
+
+-- one of the checksum tool's
+abbrev pub IsTools : Statement → Type 0
+IsTools statement = IsClients statement → ⊥

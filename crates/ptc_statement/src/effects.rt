@@ -50,7 +50,7 @@ fn row_made(alloc: Global, statement: &Statement) -> R<Option<Row>>
 }
 
 /// What a statement leaves of a row in its reach.
-pub fn row_left(alloc: Global, statement: &Statement, schema: &Schema, row: &Row) -> R<Option<Row>>
+fn row_left(alloc: Global, statement: &Statement, schema: &Schema, row: &Row) -> R<Option<Row>>
     ensures { IfOk result (λ left. left ≡ effect_within schema.now statement.now (Some row.now)) }
 {
     match statement {
@@ -63,7 +63,7 @@ pub fn row_left(alloc: Global, statement: &Statement, schema: &Schema, row: &Row
         }
         Statement::Update { sets, cond, .. } => {
             if takes(schema, cond, row) {
-                return Ok(Some(row_set(alloc, schema, sets, row)?));
+                return Ok(Some(updated(alloc, schema, sets, row)?));
             }
             Ok(Some(row.copy(alloc)?))
         }
@@ -71,8 +71,9 @@ pub fn row_left(alloc: Global, statement: &Statement, schema: &Schema, row: &Row
     }
 }
 
-/// The row with an UPDATE's assignments done.
-fn row_set(alloc: Global, schema: &Schema, sets: &Sets, row: &Row) -> R<Row>
+/// The row with an UPDATE's assignments done, from the first to the last.
+/// Source: MySQL Reference Manual, "UPDATE Statement".
+pub fn updated(alloc: Global, schema: &Schema, sets: &Sets, row: &Row) -> R<Row>
     ensures { IfOk result (λ new. new ≡ after_sets schema.now sets.now row.now) }
 {
     let mut new = row.copy(alloc)?;

@@ -244,8 +244,9 @@ fn or(left: Option<bool>, right: Option<bool>) -> Option<bool>
     }
 }
 
-/// Whether a statement with this condition, or none, takes the row.
-pub(crate) fn takes(schema: &Schema, cond: &Option<Cond>, row: &Row) -> bool
+/// Whether a statement with this condition takes the row: where the condition is true, and where there
+/// is none. It takes no memory.
+pub fn takes(schema: &Schema, cond: &Option<Cond>, row: &Row) -> bool
     ensures { result ≡ is_taken schema.now cond.now row.now }
 {
     match cond {

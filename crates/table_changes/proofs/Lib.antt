@@ -1,4 +1,5 @@
 pub mod DoneLemmas
 pub mod DueLemmas
+pub mod StayLemmas
 pub mod TestLemmas
 pub mod WithinLemmas

@@ -1,6 +1,6 @@
 ghost use Rattle.std.specs.Prelude.{ℕ, ◌≡◌, ◌≤◌, ◌+◌, [], ◌∷◌, ◌++◌, None, Some, IfOk, OnOk};
 ghost use Rattle.row_types.specs.Fit.{IsSchema, IsTable, RowFits};
-ghost use Rattle.ptc_statement.specs.Effect.{effect_within};
+ghost use Rattle.ptc_statement.specs.Effect.{after_sets, effect_within};
 ghost use Rattle.ptc_statement.specs.Fits.{StatementFits};
 ghost use Rattle.ptc_statement.specs.declared.statements.Statement.TheVariants.{Insert, Replace};
 ghost use Rattle.ordered_table.specs.KeyRows.{rows_in};
@@ -10,7 +10,7 @@ ghost use Rattle.table_changes.specs.Plans.{ChangeFits, IsDue, IsSound};
 
 use crate::row_changes::{RowChange, RowChanges};
 use ordered_table::Table;
-use ptc_statement::{Statement, reach, row_left};
+use ptc_statement::{Sets, Statement, reach, takes, updated};
 use row_types::keys::compare_values;
 use row_types::{Key, R, Row, Schema, Span};
 use std::alloc::Global;
@@ -113,6 +113,7 @@ fn changes_in(
     table: &Table,
     span: &Span,
 ) -> R<RowChanges>
+    requires absent { effect_within schema.now statement.now None ≡ None }
     ensures { IfOk result (λ changes. changes ≡ changes_within schema.now statement.now (rows_in table.now.key_len span.now table.now.rows)) }
 {
     let mut changes = RowChanges::new(alloc);
@@ -123,7 +124,8 @@ fn changes_in(
     Ok(changes)
 }
 
-/// Puts what a statement does to a row in its reach at the end, if it does anything.
+/// Puts what a statement that makes no row does to a row in its reach at the end, if it does anything.
+/// Nothing is copied of a row that the statement doesn't take.
 fn push_change(
     alloc: Global,
     statement: &Statement,
@@ -131,20 +133,49 @@ fn push_change(
     row: &Row,
     changes: &mut RowChanges,
 ) -> R<()>
+    requires absent { effect_within schema.now statement.now None ≡ None }
     ensures { OnOk result (changes.new ≡ changes.old ++ changes_to schema.now row.now (effect_within schema.now statement.now (Some row.now))) }
 {
-    match row_left(alloc, statement, schema, row)? {
-        None => {
-            let key = Key::from_values(alloc, schema.key_values(row))?;
-            changes.push(RowChange::Gone(key))
-        }
-        Some(new) => {
-            if is_same(&new, row) {
-                return Ok(());
+    match statement {
+        Statement::Delete { cond, .. } => {
+            if takes(schema, cond, row) {
+                push_gone(alloc, schema, row, changes)?;
             }
-            changes.push(RowChange::Put(new))
+            Ok(())
         }
+        Statement::Update { sets, cond, .. } => {
+            if takes(schema, cond, row) {
+                push_updated(alloc, schema, sets, row, changes)?;
+            }
+            Ok(())
+        }
+        _ => Ok(()),
     }
+}
+
+/// Puts the change at the end that takes a row away.
+fn push_gone(alloc: Global, schema: &Schema, row: &Row, changes: &mut RowChanges) -> R<()>
+    ensures { OnOk result (changes.new ≡ changes.old ++ changes_to schema.now row.now None) }
+{
+    let key = Key::from_values(alloc, schema.key_values(row))?;
+    changes.push(RowChange::Gone(key))
+}
+
+/// Puts the change at the end that an UPDATE's assignments make to a row, if they change it.
+fn push_updated(
+    alloc: Global,
+    schema: &Schema,
+    sets: &Sets,
+    row: &Row,
+    changes: &mut RowChanges,
+) -> R<()>
+    ensures { OnOk result (changes.new ≡ changes.old ++ changes_to schema.now row.now (Some (after_sets schema.now sets.now row.now))) }
+{
+    let new = updated(alloc, schema, sets, row)?;
+    if is_same(&new, row) {
+        return Ok(());
+    }
+    changes.push(RowChange::Put(new))
 }
 
 /// Whether two rows have the same values.

@@ -1,6 +1,6 @@
 use Rattle.std.proofs.Common.{◌≡◌, length}
 use Rattle.ptc_statement.specs.Effect.{after_sets}
-use Rattle.ptc_statement.proofs.effects.row_set.Given as goal
+use Rattle.ptc_statement.proofs.effects.updated.Given as goal
 
 abbrev pub invariant-loop-assignment : goal.invariant-loop-assignment
 invariant-loop-assignment l = after_sets l.schema l.rest l.new ≡ after_sets l.schema l.sets l.row
