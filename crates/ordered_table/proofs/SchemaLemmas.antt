@@ -42,7 +42,4 @@ table_ordered schema [] is table = tt
 table_ordered schema (row ∷ rows) is table = (fitting_key schema row is table.0, table.1, table_ordered schema rows is table.2)
 
 pub with_is_put : (schema : Schema) (row : List Value) (rows : List (List Value)) → with_row schema row rows ≡ put_row schema.key_len row rows
-with_is_put schema row [] = refl
-with_is_put schema row (other ∷ others) =
-    ap (λ (rs : List (List Value)). match_ordering (key_cmp (take schema.key_len row) (take schema.key_len other)) (row ∷ other ∷ others) (row ∷ others) (other ∷ rs))
-    (with_is_put schema row others)
+with_is_put schema row rows = refl

@@ -1,35 +1,8 @@
-ghost use Rattle.std.specs.Prelude.{◌≡◌, ◌≤◌, ◌<◌, ◌+◌, ◌↔◌, IsTrue, IfOk, slice_index_or, slice_get, slice_set, option_copied, vec_len, vec_capacity};
+ghost use Rattle.std.specs.Prelude.{◌≡◌, ◌≤◌, ◌<◌, ◌+◌, slice_index_or, slice_get, slice_set, option_copied, vec_len, vec_capacity};
 ghost use Rattle.std.specs.List.{insert};
 
-use row_types::{R, Row, Rows};
-use std::alloc::Global;
+use row_types::Row;
 use std::mem;
-
-/// Copies of rows.
-pub(crate) fn copies(alloc: Global, rows: &[Row]) -> R<Rows>
-    ensures { IfOk result (λ copies. copies ≡ rows.now) }
-{
-    let mut items = Vec::new(alloc);
-    for row in rows {
-        items.push(row.copy(alloc)?)?;
-    }
-    Ok(Rows { items })
-}
-
-/// Whether two lists have the same rows.
-pub(crate) fn same_rows(ours: &[Row], theirs: &[Row]) -> bool
-    ensures { IsTrue result ↔ (ours.now ≡ theirs.now) }
-{
-    if ours.len() != theirs.len() {
-        return false;
-    }
-    for i in 0..ours.len() {
-        if !ours[i].same(&theirs[i]) {
-            return false;
-        }
-    }
-    true
-}
 
 /// The row of this number, counted from 0.
 pub(crate) fn item_at(rows: &[Row], index: u64) -> Option<&Row>

@@ -3,9 +3,9 @@ ghost use Rattle.ordered_table.specs.KeyRows.{HasKey, AreOrdered, row_at, put_ro
 ghost use Rattle.ordered_table.specs.TableView.{TableView};
 
 use crate::places::{Place, has_no_null, key_of, key_values, place_of, rows_before, rows_past};
-use crate::row_lists::{copies, exchange, item_at, put_in, same_rows};
+use crate::row_lists::{exchange, item_at, put_in};
 use crate::rows_ahead::RowsAhead;
-use row_types::{Edge, Key, Memory, R, Row, Rows, Span, Value};
+use row_types::{Edge, Key, Memory, Plain, R, Row, Rows, Span, Value};
 use std::alloc::Global;
 use std::marker::Model;
 
@@ -51,9 +51,8 @@ impl Table {
         requires ordered { AreOrdered key_len rows.now }
         ensures { IfOk result (λ table. table ≡ record { key_len = key_len; rows = rows.now; spare = 0 }) }
     {
-        let Rows { items } = copies(alloc, rows)?;
         Ok(Table {
-            rows: items,
+            rows: Row::copies(alloc, rows)?,
             key_len,
             spare: 0,
         })
@@ -159,8 +158,9 @@ impl Table {
     pub fn rows(&self, alloc: Global, span: &Span) -> R<Rows>
         ensures { IfOk result (λ rows. rows ≡ rows_in self.now.key_len span.now self.now.rows) }
     {
-        let rows = copies(alloc, self.each(span).rows)?;
-        Ok(rows)
+        Ok(Rows {
+            items: Row::copies(alloc, self.each(span).rows)?,
+        })
     }
 
     /// The rows whose keys are in the span, to be gone over by rising key.
@@ -186,7 +186,7 @@ impl Table {
     pub fn same_rows(&self, other: &Table) -> bool
         ensures { IsTrue result ↔ (self.now.rows ≡ other.now.rows) }
     {
-        same_rows(self.rows.as_slice(), other.rows.as_slice())
+        Row::all_same(self.rows.as_slice(), other.rows.as_slice())
     }
 
     /// The rows whose keys are past the edge.

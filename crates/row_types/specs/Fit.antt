@@ -2,15 +2,13 @@
 use Rattle.std.specs.Prelude.{FitsSigned, false, ℕ, ℤ, ◌≡◌, ◌≤◌, ◌<◌, ◌^◌, List, [], ◌∷◌, IsTrue, length, take}
 use Rattle.std.specs.Int.{w32, w64}
 use Rattle.std.specs.List.{AllByRecursion}
-use Rattle.std.specs.Ordering.{match_ordering}
-use Rattle.std.specs.declared.cmp.Ordering.TheVariants.{Less}
 use Rattle.row_types.specs.declared.values.Value.{Value}
 use Rattle.row_types.specs.declared.values.Value.TheVariants.{Null, Int, Text as OneText}
 use Rattle.row_types.specs.declared.table_schema.ColumnKind.{ColumnKind}
 use Rattle.row_types.specs.declared.table_schema.ColumnKind.TheVariants.{Int as IntColumn, BigInt, Text as TextColumn}
 use Rattle.row_types.specs.declared.table_schema.Column.{Column}
 use Rattle.row_types.specs.declared.table_schema.Schema.{Schema}
-use Rattle.row_types.specs.Order.{key_cmp}
+use Rattle.row_types.specs.KeyRows.{Row, Rows, TableRows, IsBelowAll as IsBelowEach, put_row}
 
 -- a number within the column's range
 abbrev pub NumberFits : ColumnKind → ℤ → Type 0
@@ -41,11 +39,11 @@ ValuesFit [] (value ∷ values) = ⊥
 ValuesFit (column ∷ columns) [] = ⊥
 ValuesFit (column ∷ columns) (value ∷ values) = ValueFits column value × ValuesFit columns values
 
-abbrev pub RowFits : Schema → List Value → Type 0
+abbrev pub RowFits : Schema → Row → Type 0
 RowFits schema row = ValuesFit schema.columns row
 
 -- the values of the key columns, which come first
-abbrev pub key_of : Schema → List Value → List Value
+abbrev pub key_of : Schema → Row → List Value
 key_of schema row = take schema.key_len row
 
 -- a text column's length is a number of 16 bits
@@ -61,31 +59,26 @@ pub record IsSchema (schema : Schema) : Type 0 where
   pub not_null : AllByRecursion (λ (column : Column). column.nullable ≡ false) (take schema.key_len schema.columns)
 
 -- the key of the row is below each of these rows' keys
-abbrev pub IsBelowAll : Schema → List Value → List (List Value) → Type 0
-IsBelowAll schema row = AllByRecursion (λ (other : List Value). key_cmp (key_of schema row) (key_of schema other) ≡ Less)
+abbrev pub IsBelowAll : Schema → Row → Rows → Type 0
+IsBelowAll schema = IsBelowEach schema.key_len
 
 -- a table: rows that fit, by rising key, so that each key is there once
-abbrev pub IsTable : Schema → List (List Value) → Type 0
+abbrev pub IsTable : Schema → Rows → Type 0
 IsTable schema [] = Unit {0}
 IsTable schema (row ∷ rows) = RowFits schema row × IsBelowAll schema row rows × IsTable schema rows
 
 -- a table for each schema
-abbrev pub AreTables : List Schema → List (List (List Value)) → Type 0
+abbrev pub AreTables : List Schema → TableRows → Type 0
 AreTables [] [] = Unit {0}
 AreTables [] (rows ∷ tables) = ⊥
 AreTables (schema ∷ schemas) [] = ⊥
 AreTables (schema ∷ schemas) (rows ∷ tables) = IsTable schema rows × AreTables schemas tables
 
 -- rows with this row at its place by key, in place of one that has its key
-abbrev pub with_row : Schema → List Value → List (List Value) → List (List Value)
-with_row schema row [] = row ∷ []
-with_row schema row (other ∷ others) =
-    match_ordering (key_cmp (key_of schema row) (key_of schema other))
-    (row ∷ other ∷ others)
-    (row ∷ others)
-    (other ∷ with_row schema row others)
+abbrev pub with_row : Schema → Row → Rows → Rows
+with_row schema = put_row schema.key_len
 
 -- rows with each of the second list put in, one after the other
-abbrev pub with_rows : Schema → List (List Value) → List (List Value) → List (List Value)
+abbrev pub with_rows : Schema → Rows → Rows → Rows
 with_rows schema rows [] = rows
 with_rows schema rows (row ∷ more) = with_rows schema (with_row schema row rows) more

@@ -1,9 +1,8 @@
-ghost use Rattle.std.specs.Prelude.{◌≡◌, ◌≤◌, ◌↔◌, IsTrue, IfOk, length, take};
+ghost use Rattle.std.specs.Prelude.{◌≡◌, ◌↔◌, IsTrue, IfOk};
 ghost use Rattle.row_types.specs.Order.{edge_cmp, edge_le, is_past_edge, is_before_edge, has, all_keys, later_edge, earlier_edge, meeting};
 
 use crate::keys::{Key, compare_values};
 use crate::memory::R;
-use crate::table_rows::Row;
 use crate::values::Value;
 use std::alloc::Global;
 use std::cmp::Ordering;
@@ -141,14 +140,6 @@ impl Span {
             lo: Edge::Low,
             hi: Edge::Low,
         })
-    }
-
-    /// Whether the row's key, its first `key_len` values, lies between the edges.
-    pub fn has_row(&self, row: &Row, key_len: u8) -> bool
-        requires { key_len ≤ length row.now }
-        ensures { result ≡ has self.now (take key_len row.now) }
-    {
-        self.has_values(row.as_slice().split_at(key_len as usize).0)
     }
 
     fn has_values(&self, key: &[Value]) -> bool

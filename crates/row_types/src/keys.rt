@@ -1,6 +1,7 @@
-ghost use Rattle.std.specs.Prelude.{◌≡◌, ◌<◌, ◌≤◌, ◌^◌, ◌↔◌, List, [], ◌∷◌, ◌++◌, ℕ, length, take, IsTrue, IfOk, OnOk, OnErr};
+ghost use Rattle.std.specs.Prelude.{◌≡◌, ◌<◌, ◌^◌, ◌↔◌, List, [], ◌∷◌, ◌++◌, ℕ, length, IsTrue, IfOk, OnOk, OnErr};
 ghost use Rattle.row_types.specs.Order.{key_cmp};
 
+use crate::item_lists::Plain;
 use crate::memory::R;
 use crate::values::Value;
 use std::alloc::Global;
@@ -63,39 +64,22 @@ impl Key {
     pub fn copy(&self, alloc: Global) -> R<Key>
         ensures { IfOk result (λ copy. copy ≡ self.now) }
     {
-        let mut items = Vec::new(alloc);
-        for item in self.items.as_slice() {
-            items.push(item.copy(alloc)?)?;
-        }
-        Ok(Key { items })
+        Key::from_values(alloc, self.items.as_slice())
     }
 
     pub fn same(&self, other: &Key) -> bool
         ensures { IsTrue result ↔ (self.now ≡ other.now) }
     {
-        let (ours, theirs) = (self.items.as_slice(), other.items.as_slice());
-        if ours.len() != theirs.len() {
-            return false;
-        }
-        for i in 0..ours.len() {
-            if !ours[i].same(&theirs[i]) {
-                return false;
-            }
-        }
-        true
+        Value::all_same(self.items.as_slice(), other.items.as_slice())
     }
-}
 
-impl Key {
     /// The key of these values.
     pub fn from_values(alloc: Global, values: &[Value]) -> R<Key>
         ensures { IfOk result (λ key. key ≡ values.now) }
     {
-        let mut items = Vec::new(alloc);
-        for value in values {
-            items.push(value.copy(alloc)?)?;
-        }
-        Ok(Key { items })
+        Ok(Key {
+            items: Value::copies(alloc, values)?,
+        })
     }
 
     /// Compares column by column; a proper prefix is less.

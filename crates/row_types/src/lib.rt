@@ -4,6 +4,7 @@
 pub mod byte_list;
 pub mod digests;
 pub mod edges;
+pub mod item_lists;
 pub mod keys;
 pub mod lock_modes;
 pub mod memory;
@@ -17,6 +18,7 @@ pub mod values;
 pub use byte_list::Bytes;
 pub use digests::{Digest, DigestKind};
 pub use edges::{Edge, Span};
+pub use item_lists::{Items, Plain};
 pub use keys::Key;
 pub use lock_modes::LockMode;
 pub use memory::{Memory, R};

@@ -1,11 +1,11 @@
-ghost use Rattle.std.specs.Prelude.{◌≡◌, ◌<◌, ◌^◌, ◌↔◌, List, [], ◌∷◌, ◌++◌, ℕ, length, IsTrue, IfOk, OnOk, OnErr};
+ghost use Rattle.std.specs.Prelude.{◌≡◌, ◌↔◌, IsTrue, IfOk};
 ghost use Rattle.std.specs.Option.{option_copied};
 ghost use Rattle.std.specs.List.{slice_get};
 
 use crate::byte_list::Bytes;
+use crate::item_lists::{Items, Plain};
 use crate::memory::R;
 use std::alloc::Global;
-use std::marker::Model;
 
 /// What a column holds: numbers of 32 or 64 bits, or texts of at most `max` bytes.
 #[derive(Clone, Copy, Debug, PartialEq, Eq)]
@@ -38,162 +38,10 @@ pub struct Schemas {
 }
 
 /// The columns of a table, in order, numbered from 0.
-#[derive(Debug, Drop)]
-pub struct Columns {
-    pub items: Vec<Column>,
-}
-
-impl Model for Columns {
-    ghost use Rattle.std.specs.Prelude.{List, ℕ};
-    ghost use Rattle.row_types.specs.declared.table_schema.Column.{Column};
-
-    ghost Value = { List Column };
-
-    ghost view = { λ list. list.items.items };
-}
-
-impl Columns {
-    /// An empty list.
-    pub fn new(alloc: Global) -> Columns
-        ensures { result ≡ [] }
-    {
-        Columns {
-            items: Vec::new(alloc),
-        }
-    }
-
-    pub fn as_slice(&self) -> &[Column]
-        ensures { result.now ≡ self.now }
-    {
-        self.items.as_slice()
-    }
-
-    pub fn len(&self) -> usize
-        ensures value { result ≡ length self.now }
-        ensures bound { result < 2 ^ 63 }
-    {
-        self.items.len()
-    }
-
-    pub fn is_empty(&self) -> bool
-        ensures { IsTrue result ↔ (self.now ≡ []) }
-    {
-        self.items.is_empty()
-    }
-
-    /// Puts an item at the end; a refusal leaves the list as it was.
-    pub fn push(&mut self, item: Column) -> R<()>
-        ensures ok { OnOk result (self.new ≡ self.old ++ item ∷ []) }
-        ensures err { OnErr result (self.new ≡ self.old) }
-    {
-        self.items.push(item)?;
-        Ok(())
-    }
-
-    pub fn copy(&self, alloc: Global) -> R<Columns>
-        ensures { IfOk result (λ copy. copy ≡ self.now) }
-    {
-        let mut items = Vec::new(alloc);
-        for item in self.items.as_slice() {
-            items.push(item.copy(alloc)?)?;
-        }
-        Ok(Columns { items })
-    }
-
-    pub fn same(&self, other: &Columns) -> bool
-        ensures { IsTrue result ↔ (self.now ≡ other.now) }
-    {
-        let (ours, theirs) = (self.items.as_slice(), other.items.as_slice());
-        if ours.len() != theirs.len() {
-            return false;
-        }
-        for i in 0..ours.len() {
-            if !ours[i].same(&theirs[i]) {
-                return false;
-            }
-        }
-        true
-    }
-}
+pub type Columns = Items<Column>;
 
 /// Schemas, in the order of the tables.
-#[derive(Debug, Drop)]
-pub struct SchemaList {
-    pub items: Vec<Schema>,
-}
-
-impl Model for SchemaList {
-    ghost use Rattle.std.specs.Prelude.{List, ℕ};
-    ghost use Rattle.row_types.specs.declared.table_schema.Schema.{Schema};
-
-    ghost Value = { List Schema };
-
-    ghost view = { λ list. list.items.items };
-}
-
-impl SchemaList {
-    /// An empty list.
-    pub fn new(alloc: Global) -> SchemaList
-        ensures { result ≡ [] }
-    {
-        SchemaList {
-            items: Vec::new(alloc),
-        }
-    }
-
-    pub fn as_slice(&self) -> &[Schema]
-        ensures { result.now ≡ self.now }
-    {
-        self.items.as_slice()
-    }
-
-    pub fn len(&self) -> usize
-        ensures value { result ≡ length self.now }
-        ensures bound { result < 2 ^ 63 }
-    {
-        self.items.len()
-    }
-
-    pub fn is_empty(&self) -> bool
-        ensures { IsTrue result ↔ (self.now ≡ []) }
-    {
-        self.items.is_empty()
-    }
-
-    /// Puts an item at the end; a refusal leaves the list as it was.
-    pub fn push(&mut self, item: Schema) -> R<()>
-        ensures ok { OnOk result (self.new ≡ self.old ++ item ∷ []) }
-        ensures err { OnErr result (self.new ≡ self.old) }
-    {
-        self.items.push(item)?;
-        Ok(())
-    }
-
-    pub fn copy(&self, alloc: Global) -> R<SchemaList>
-        ensures { IfOk result (λ copy. copy ≡ self.now) }
-    {
-        let mut items = Vec::new(alloc);
-        for item in self.items.as_slice() {
-            items.push(item.copy(alloc)?)?;
-        }
-        Ok(SchemaList { items })
-    }
-
-    pub fn same(&self, other: &SchemaList) -> bool
-        ensures { IsTrue result ↔ (self.now ≡ other.now) }
-    {
-        let (ours, theirs) = (self.items.as_slice(), other.items.as_slice());
-        if ours.len() != theirs.len() {
-            return false;
-        }
-        for i in 0..ours.len() {
-            if !ours[i].same(&theirs[i]) {
-                return false;
-            }
-        }
-        true
-    }
-}
+pub type SchemaList = Items<Schema>;
 
 impl ColumnKind {
     pub fn copy(&self, _alloc: Global) -> R<ColumnKind>
@@ -271,5 +119,25 @@ impl SchemaList {
         ensures { option_copied result ≡ slice_get self.now table }
     {
         self.items.get(table as usize)
+    }
+}
+
+impl Plain for Column {
+    fn copy(&self, alloc: Global) -> R<Column> {
+        Column::copy(self, alloc)
+    }
+
+    fn same(&self, other: &Column) -> bool {
+        Column::same(self, other)
+    }
+}
+
+impl Plain for Schema {
+    fn copy(&self, alloc: Global) -> R<Schema> {
+        Schema::copy(self, alloc)
+    }
+
+    fn same(&self, other: &Schema) -> bool {
+        Schema::same(self, other)
     }
 }

@@ -2,6 +2,7 @@ ghost use Rattle.std.specs.Prelude.{◌≡◌, ◌↔◌, IsTrue, IfOk};
 ghost use Rattle.row_types.specs.Order.{value_cmp};
 
 use crate::byte_list::Bytes;
+use crate::item_lists::Plain;
 use crate::memory::R;
 use std::alloc::Global;
 use std::cmp::Ordering;
@@ -49,5 +50,15 @@ impl Value {
             (Value::Text(ours), Value::Text(theirs)) => ours.as_slice().cmp(theirs.as_slice()),
             (Value::Text(_), _) => Ordering::Greater,
         }
+    }
+}
+
+impl Plain for Value {
+    fn copy(&self, alloc: Global) -> R<Value> {
+        Value::copy(self, alloc)
+    }
+
+    fn same(&self, other: &Value) -> bool {
+        Value::same(self, other)
     }
 }
