@@ -26,6 +26,12 @@ pub record TakesUpTo (n : ℕ) (old new : Option (List ℕ)) (bs : List ℕ) : T
   pub taken : IfSome old (λ all. bs ≡ take n all)
   pub rest : new ≡ option_map (λ all. drop n all) old
 
+-- no more than the first n of the bytes left were taken, and what follows them stays
+pub record TakesAtMost (n : ℕ) (old new : Option (List ℕ)) : Type 0 where
+  pub count : ℕ
+  pub within : count ≤ n
+  pub rest : new ≡ option_map (λ all. drop count all) old
+
 -- what one read of at most `room` bytes moved from a source to the end of a list
 pub record Moves (old new : Option (List ℕ)) (had has : List ℕ) (room count : ℕ) : Type 0 where
   pub piece : List ℕ

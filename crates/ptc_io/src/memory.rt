@@ -2,7 +2,7 @@
 ghost use Rattle.std.specs.Prelude.{◌≡◌, ◌↔◌, [], ◌≤◌, Some, min, length, take, IsTrue, IsErr, IfOk, OnErr};
 ghost use Rattle.ptc_io.specs.Bytes.{Appends, Loses};
 ghost use Rattle.ptc_io.specs.Calls.{fails_next};
-ghost use Rattle.ptc_io.specs.Faults.{HasCause};
+ghost use Rattle.ptc_io.specs.Faults.{HasCause, CountsFaults};
 ghost use Rattle.ptc_io.specs.Memory.{MemoryInput, MemoryOutput, CountsRead, CountsWrite};
 
 use super::call_list::CallList;
@@ -61,6 +61,7 @@ impl Source for MemorySource {
         ensures listed { IsErr result ↔ IsTrue (fails_next self.old.made self.old.failing) }
         ensures counts { CountsRead self.old self.new }
         ensures cause { HasCause self.old.faults self.new.faults result }
+        ensures faults { CountsFaults self.old.faults self.new.faults result }
     {
         if self.calls.count() {
             self.faults.rise();
@@ -134,6 +135,7 @@ impl Sink for MemorySink {
         ensures listed { IsTrue (fails_next self.old.made self.old.failing) → IsErr result }
         ensures counts { CountsWrite self.old self.new }
         ensures cause { HasCause self.old.faults self.new.faults result }
+        ensures faults { CountsFaults self.old.faults self.new.faults result }
         ensures takes_some { 1 ≤ self.old.most }
     {
         if self.calls.count() {

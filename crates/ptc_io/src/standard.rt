@@ -1,6 +1,7 @@
 // A source and a sink over what `std` reads and writes. No clause knows what the system gives or
 // takes, so they tell no bytes.
 ghost use Rattle.std.specs.Prelude.{◌≡◌, ℕ, ◌≤◌, ◌<◌, length, None, IfOk};
+ghost use Rattle.ptc_io.specs.Faults.{CountsFaults};
 
 use super::fault_count::FaultCount;
 use super::{Failed, Sink, Source};
@@ -38,7 +39,10 @@ impl<R: Read + Drop> Source for StdSource<R> {
 
     ghost faults = { λ s. s };
 
-    fn read(&mut self, buf: &mut [u8]) -> Result<usize, Failed> {
+    fn read(&mut self, buf: &mut [u8]) -> Result<usize, Failed>
+        ensures bound { IfOk result (λ n. n ≤ length buf.old) }
+        ensures faults { CountsFaults self.old self.new result }
+    {
         let outcome = read_some(&mut self.reader, buf);
         if outcome.is_err() {
             self.faults.rise();
@@ -94,7 +98,11 @@ impl<W: Write + Drop> Sink for StdSink<W> {
 
     ghost faults = { λ s. s };
 
-    fn write(&mut self, piece: &[u8]) -> Result<usize, Failed> {
+    fn write(&mut self, piece: &[u8]) -> Result<usize, Failed>
+        ensures bound { IfOk result (λ n. n ≤ length piece.now) }
+        ensures takes { IfOk result (λ n. 0 < length piece.now → 0 < n) }
+        ensures faults { CountsFaults self.old self.new result }
+    {
         let outcome = write_some(&mut self.writer, piece);
         if outcome.is_err() {
             self.faults.rise();

@@ -1,6 +1,6 @@
 // Whole inputs and texts over sources and sinks.
 ghost use Rattle.std.specs.Prelude.{◌≡◌, ◌+◌, ◌<◌, ◌≤◌, ◌^◌, [], length, IfOk, OnOk, OnErr, vec_len};
-ghost use Rattle.ptc_io.specs.Bytes.{Appends, AppendsFront, Moves, TakesUpTo};
+ghost use Rattle.ptc_io.specs.Bytes.{Appends, AppendsFront, Moves, TakesAtMost, TakesUpTo};
 ghost use Rattle.ptc_io.specs.Faults.{HasCause, HasRisen};
 
 use super::{Failed, ReadFault, Sink, Source};
@@ -10,7 +10,8 @@ use std::alloc::{AllocError, Global};
 const PIECE: usize = 65536;
 
 /// Reads until the end, or until there are `limit + 1` bytes: so more than `limit` of them say
-/// that the input is too long. After an error the bytes that were read are lost.
+/// that the input is too long. After an error the bytes that were read are lost, and no more than
+/// `limit + 1` of them were taken.
 pub fn read_to_limit<I: Source>(
     alloc: Global,
     input: &mut I,
@@ -19,6 +20,7 @@ pub fn read_to_limit<I: Source>(
     requires { limit < 2 ^ 62 }
     ensures bytes { IfOk result (λ bytes.
         TakesUpTo (limit + 1) (I.left input.old) (I.left input.new) bytes.items) }
+    ensures taken { TakesAtMost (limit + 1) (I.left input.old) (I.left input.new) }
     ensures size { IfOk result (λ bytes. vec_len bytes ≤ limit + 1) }
     ensures never_falls { I.faults input.old ≤ I.faults input.new }
     ensures failed { result ≡ Err ReadFault.Failed
@@ -47,6 +49,7 @@ fn fill<I: Source>(
     requires empty { bytes.old.items ≡ [] }
     ensures bytes { OnOk result
         (TakesUpTo most (I.left input.old) (I.left input.new) bytes.new.items) }
+    ensures taken { TakesAtMost most (I.left input.old) (I.left input.new) }
     ensures size { OnOk result (vec_len bytes.new ≤ most) }
     ensures never_falls { I.faults input.old ≤ I.faults input.new }
     ensures failed { result ≡ Err ReadFault.Failed
@@ -72,6 +75,7 @@ fn read_piece<I: Source>(
     requires buffer { 0 < length buffer.old }
     ensures moves { IfOk result
         (Moves (I.left input.old) (I.left input.new) bytes.old.items bytes.new.items room) }
+    ensures taken { TakesAtMost room (I.left input.old) (I.left input.new) }
     ensures never_falls { I.faults input.old ≤ I.faults input.new }
     ensures failed { result ≡ Err ReadFault.Failed
         → HasRisen (I.faults input.old) (I.faults input.new) }
