@@ -62,9 +62,8 @@ impl Table {
     pub fn copy(&self, alloc: Global) -> R<Table>
         ensures { IfOk result (λ copy. copy ≡ record self.now { spare = 0 }) }
     {
-        let Rows { items } = copies(alloc, self.rows.as_slice())?;
         Ok(Table {
-            rows: items,
+            rows: Row::copies(alloc, self.rows.as_slice())?,
             key_len: self.key_len,
             spare: 0,
         })
