@@ -1,13 +1,8 @@
 pub mod EachLemmas
-pub mod HeadlineLemmas
 pub mod KeptLemmas
 pub mod LiveLemmas
-pub mod MasterLemmas
 pub mod MoveLemmas
 pub mod NodeLemmas
 pub mod OrderLemmas
-pub mod RefusalLemmas
 pub mod ReportLemmas
 pub mod RunLemmas
-pub mod SessionLemmas
-pub mod TableLemmas

@@ -1,19 +1,13 @@
--- Items played one after the other, the end of a run, and how many moves there are.
-use Rattle.std.proofs.Common.{◌≡◌, ℕ, zero, suc, ◌+◌, ◌-◌, ◌*◌, ◌<◌, ◌≤◌, ◌||◌, List, [], ◌∷◌, ◌++◌, length, take, drop, map, refl, ap, sym, ◌∙◌, subst, arith, append_assoc, append-nil, add-one, Option, Some, None, Bool, true, false, Result, Ok, Err, cond, is_some}
+-- Items played one after the other, and the end of a run.
+use Rattle.std.proofs.Common.{◌≡◌, ℕ, zero, suc, ◌+◌, ◌-◌, ◌<◌, ◌||◌, List, [], ◌∷◌, ◌++◌, length, take, drop, refl, ap, sym, ◌∙◌, subst, arith, append_assoc, append-nil, add-one, Option, Some, None, Bool, true, false, Result, Ok, Err, is_some}
 use Rattle.std.specs.Prelude.{unwrap_or}
 use Rattle.std.specs.List.{AllByRecursion, slice_get}
 use Rattle.std.specs.Result.{OnErr}
 use Rattle.std.proofs.Math.Seq.{take-length}
-use Rattle.std.proofs.lemmas.List.{length-map}
-use Rattle.row_types.specs.declared.values.Value.{Value}
-use Rattle.row_types.specs.declared.table_schema.Schema.{Schema}
-use Rattle.ptc_statement.specs.declared.scripts.Script.{Script}
 use Rattle.cluster_core.specs.Node.{NodeView}
-use Rattle.cluster_core.specs.Sessions.{SessionView, unstarted}
-use Rattle.cluster_core.specs.World.{WorldView, fresh, begun, turn, move, behind_item, step, played, sessions_from, workers_from, order, round, rounds, IsStill, EndsIn, Reaches}
-use Rattle.cluster_core.specs.Turns.{Takes, Plays, TookTurns, lags, lines_left, turns_left, moves_of, lines_of, most_moves}
-use Rattle.workload_file.specs.Workload.{IsWorkload}
-use Rattle.workload_file.specs.declared.workload.Workload.{Workload}
+use Rattle.cluster_core.specs.Sessions.{SessionView}
+use Rattle.cluster_core.specs.World.{WorldView, turn, move, behind_item, step, played, sessions_from, workers_from, order, round, rounds, IsStill, EndsIn, Reaches}
+use Rattle.cluster_core.specs.Turns.{Takes, Plays, TookTurns, turns_left}
 use Rattle.workload_file.specs.declared.actors.Actor.{Actor}
 use Rattle.workload_file.specs.declared.actors.Actor.TheVariants.{Session, Tool, Worker}
 use Rattle.workload_file.specs.declared.schedule.Item.{Item}
@@ -48,7 +42,7 @@ reaches_more first middle last one two = record {
 
 -- ---- items
 
-move_nearer : (item : Item) (w v : WorldView) → move item w ≡ Some v → turns_left v < turns_left w
+pub move_nearer : (item : Item) (w v : WorldView) → move item w ≡ Some v → turns_left v < turns_left w
 move_nearer (Turn actor) w v is = turn_nearer actor w v is
 
 move_unplayed : (item : Item) (w v : WorldView) → move item w ≡ Some v → v.unplayed ≡ w.unplayed
@@ -69,7 +63,7 @@ behind_same w none = ap (λ (items : List Item). record w { unplayed = items }) 
 step_behind : (item : Item) (w : WorldView) → w.unplayed ≡ [] → (step item w).unplayed ≡ []
 step_behind item w none = step_unplayed item w ∙ ap (drop 1) none
 
-played_behind : (items : List Item) (w : WorldView) → w.unplayed ≡ [] → (played items w).unplayed ≡ []
+pub played_behind : (items : List Item) (w : WorldView) → w.unplayed ≡ [] → (played items w).unplayed ≡ []
 played_behind [] w none = none
 played_behind (item ∷ items) w none = played_behind items (step item w) (step_behind item w none)
 
@@ -99,7 +93,7 @@ took_more_still old now new items item still is same =
     (same ∙ still.0, all-append (λ i. move i old ≡ None) items item still.1 (ap (move item) (sym still.0) ∙ is))
 
 -- what the turn leaves: the same world where it was still, and else one with fewer turns left
-stays_at : (item : Item) (now new : WorldView) → now.unplayed ≡ [] → move item now ≡ None → new ≡ step item now → new ≡ now
+pub stays_at : (item : Item) (now new : WorldView) → now.unplayed ≡ [] → move item now ≡ None → new ≡ step item now → new ≡ now
 stays_at item now new none is state = state ∙ ap (λ (o : Option WorldView). behind_item (unwrap_or o now)) is ∙ behind_same now none
 
 nearer_at : (item : Item) (now new next : WorldView) → move item now ≡ Some next → new ≡ step item now → turns_left new < turns_left now
@@ -312,64 +306,3 @@ runs_end first now next moved so_far took none =
 pub on_err_of : {T E P : Type 0} (r : Result T E) → P → OnErr r P
 on_err_of (Ok x) holds = tt
 on_err_of (Err e) holds = holds
-
--- ---- one end
-
-none_moves : (items : List Item) (w : WorldView) → w.unplayed ≡ [] → AllByRecursion (λ item. move item w ≡ None) items → played items w ≡ w
-none_moves [] w behind none = refl
-none_moves (item ∷ items) w behind none =
-    ap (played items) (stays_at item w (step item w) behind none.0 refl) ∙ none_moves items w behind none.1
-
--- where nobody can move, rounds change nothing
-still_stays : (n : ℕ) (w : WorldView) → w.unplayed ≡ [] → IsStill w → rounds n w ≡ w
-still_stays zero w behind still = refl
-still_stays (suc n) w behind still = ap (rounds n) (none_moves (order w) w behind still) ∙ still_stays n w behind still
-
-same_end : (m n : ℕ) (first : WorldView) → first.unplayed ≡ [] → IsStill (rounds m first) → IsStill (rounds n first) → rounds m first ≡ rounds n first
-same_end zero n first behind one other = sym (still_stays n first behind one)
-same_end (suc m) zero first behind one other = still_stays (suc m) first behind other
-same_end (suc m) (suc n) first behind one other = same_end m n (round first) (played_behind (order first) first behind) one other
-
-played_unplayed : (items rest : List Item) (w : WorldView) → w.unplayed ≡ items ++ rest → (played items w).unplayed ≡ rest
-played_unplayed [] rest w is = is
-played_unplayed (item ∷ items) rest w is = played_unplayed items rest (step item w) (step_unplayed item w ∙ ap (drop 1) is)
-
--- a run has one end
-pub one_end : (first last other : WorldView) → EndsIn first last → EndsIn first other → last ≡ other
-one_end first last other one two =
-    one.reached
-    ∙ same_end one.count two.count (played first.unplayed first) (played_unplayed first.unplayed [] first (sym (append-nil first.unplayed)))
-    (subst IsStill one.reached one.still) (subst IsStill two.reached two.still)
-    ∙ sym two.reached
-
--- ---- how many moves there are
-
--- one turn fewer is left for each move
-moves_bounded_as : (item : Item) (w : WorldView) (next : Option WorldView) → move item w ≡ next
-    → cond (is_some next) 1 0 + turns_left (behind_item (unwrap_or next w)) ≤ turns_left w
-moves_bounded_as item w None is = omega arith
-moves_bounded_as item w (Some v) is = omega (arith, move_nearer item w v is)
-
-pub moves_bounded : (items : List Item) (w : WorldView) → moves_of items w + turns_left (played items w) ≤ turns_left w
-moves_bounded [] w = omega arith
-moves_bounded (item ∷ items) w =
-    let rest = moves_bounded items (step item w) in
-    let one = moves_bounded_as item w (move item w) refl in
-    omega (arith, rest, one)
-
-lines_begun : (scripts : List Script) → lines_left (map unstarted scripts) ≡ lines_of scripts
-lines_begun [] = refl
-lines_begun (script ∷ scripts) = omega (arith, lines_begun scripts)
-
-lags_begun : (schemas : List Schema) (copies : List (List (List (List Value)))) → lags 0 (map (fresh schemas) copies) ≡ 0
-lags_begun schemas [] = refl
-lags_begun schemas (tables ∷ copies) = omega (arith, lags_begun schemas copies)
-
-pub begun_left : (workload : Workload) → IsWorkload workload → turns_left (begun workload) ≤ most_moves workload
-begun_left workload is =
-    let nodes : length (map (fresh workload.schemas.tables) workload.copies) ≡ workload.replicas = length-map workload.copies (fresh workload.schemas.tables) ∙ is.each_copied in
-    let tool : 3 * (length workload.schemas.tables - 0 - 1) + 3 ≡ 3 * length workload.schemas.tables = omega (arith, is.some_table) in
-    rw (nodes, lines_begun workload.sessions, lags_begun workload.schemas.tables workload.copies, tool) (omega arith)
-
-pub few_moves : (workload : Workload) (items : List Item) → IsWorkload workload → moves_of items (begun workload) ≤ most_moves workload
-few_moves workload items is = omega (arith, moves_bounded items (begun workload), begun_left workload is)

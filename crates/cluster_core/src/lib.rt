@@ -3,12 +3,10 @@
 
 pub mod actors;
 mod condition_texts;
-pub mod laws;
 pub mod live_tables;
 pub mod nodes;
 mod report;
 mod report_duplicates;
-pub mod report_laws;
 mod report_nodes;
 pub mod report_verdicts;
 pub mod sessions;

@@ -4,7 +4,7 @@ use Rattle.ptc_io.specs.Bytes.{Appends, AppendsFront}
 use Rattle.workload_file.specs.declared.workload.Workload.{Workload}
 use Rattle.cluster_core.specs.World.{WorldView, begun, EndsIn}
 use Rattle.cluster_core.specs.Report.{report_of, status_of}
-use Rattle.cluster_core.specs.Headline.{RunHolds}
+use Rattle.cluster_laws.specs.Headline.{RunHolds}
 use Rattle.ptc_run.specs.declared.words.WordFault.{WordFault}
 use Rattle.ptc_run.specs.FirstForm.{IsWorkloadText, IsEarly}
 use Rattle.ptc_run.specs.Words.{words_read, word_refusal, early_refusal, limit_refusal}

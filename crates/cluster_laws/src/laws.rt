@@ -1,5 +1,5 @@
 ghost use Rattle.std.specs.Prelude.{◌≡◌, ◌≤◌, List};
-ghost use Rattle.cluster_core.specs.Headline.{RunHolds};
+ghost use Rattle.cluster_laws.specs.Headline.{RunHolds};
 ghost use Rattle.workload_file.specs.Workload.{IsWorkload};
 ghost use Rattle.cluster_core.specs.World.{WorldView, begun, EndsIn};
 ghost use Rattle.cluster_core.specs.Turns.{moves_of, most_moves};

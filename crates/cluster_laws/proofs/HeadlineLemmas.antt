@@ -30,7 +30,7 @@ use Rattle.cluster_core.specs.World.{WorldView, fresh, begun, session_turn, by_t
 use Rattle.cluster_core.specs.declared.report_verdicts.VerdictLine.{VerdictLine}
 use Rattle.cluster_core.specs.Report.{verdict_line, all_chunks, replica_verdicts, verdicts_from, verdicts_of}
 use Rattle.cluster_core.specs.Turns.{IsNumbered, ItemIsNumbered}
-use Rattle.cluster_core.specs.Headline.{LineHolds, IsOfWholeTable, HasLine, AppliedAll, logged_by, IsTools, IsOwnedBy, EachRefusedTruly, LoggedTruly, RunHolds}
+use Rattle.cluster_laws.specs.Headline.{LineHolds, IsOfWholeTable, HasLine, AppliedAll, logged_by, IsTools, IsOwnedBy, EachRefusedTruly, LoggedTruly, RunHolds}
 use Rattle.workload_file.specs.Workload.{StepFits, IsWorkload}
 use Rattle.workload_file.specs.declared.workload.Workload.{Workload}
 use Rattle.workload_file.specs.declared.actors.Actor.{Actor}
@@ -41,11 +41,11 @@ use Rattle.cluster_core.specs.declared.actors.ToolPhase.{ToolPhase}
 use Rattle.cluster_core.specs.declared.actors.ToolPhase.TheVariants.{Clear, Check, Master, Finished}
 use Rattle.cluster_core.proofs.EachLemmas.{each_more, each_append, each_first, each_rest, each_at, each_set, each_map, each_always, map_set_same, map_back, map_after, slice_get_none, LastFrom, last_all, last_first, last_more}
 use Rattle.cluster_core.proofs.KeptLemmas.{schedule_numbered}
-use Rattle.cluster_core.proofs.MasterLemmas.{IsMastered, SameMasters, IsThere, same_masters, mastered_there, each_placed, mastered_known}
-use Rattle.cluster_core.proofs.RefusalLemmas.{refused_kept, refused_begun, refused_at, refused_set, refused_done, refused_more, truly_more}
+use Rattle.cluster_laws.proofs.MasterLemmas.{IsMastered, SameMasters, IsThere, same_masters, mastered_there, each_placed, mastered_known}
+use Rattle.cluster_laws.proofs.RefusalLemmas.{refused_kept, refused_begun, refused_at, refused_set, refused_done, refused_more, truly_more}
 use Rattle.cluster_core.proofs.MoveLemmas.{did_line, line_logged, line_refused, line_done, line_done_either}
-use Rattle.cluster_core.proofs.SessionLemmas.{EachSession, SessionHolds, next_line, logged_by_own, logged_by_other, own_number, other_number, session_logged, session_refused, sessions_begun, sessions_at, sessions_kept, sessions_set, sessions_ended}
-use Rattle.cluster_core.proofs.TableLemmas.{IsWhole, RowsHold, no_rows, cleared_rows, checked_rows, published_rows, told_there, replica_has_line}
+use Rattle.cluster_laws.proofs.SessionLemmas.{EachSession, SessionHolds, next_line, logged_by_own, logged_by_other, own_number, other_number, session_logged, session_refused, sessions_begun, sessions_at, sessions_kept, sessions_set, sessions_ended}
+use Rattle.cluster_laws.proofs.TableLemmas.{IsWhole, RowsHold, no_rows, cleared_rows, checked_rows, published_rows, told_there, replica_has_line}
 
 -- a replica follows the log, over the source's schemas
 pub record ReplicaHolds (schemas : List Schema) (log : List Entry) (node : NodeView) : Type 0 where

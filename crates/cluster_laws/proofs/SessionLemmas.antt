@@ -15,7 +15,7 @@ use Rattle.statement_log.specs.declared.entries.Entry.{Entry}
 use Rattle.cluster_core.specs.Node.{NodeView}
 use Rattle.cluster_core.specs.Sessions.{SessionView, unstarted, step_left}
 use Rattle.cluster_core.specs.World.{WorldView, line_turn, sessions_from, with_session, move}
-use Rattle.cluster_core.specs.Headline.{is_among, step_call, calls_of, is_by, logged_by, singly, OwnCalls, EachOwnCalls}
+use Rattle.cluster_laws.specs.Headline.{is_among, step_call, calls_of, is_by, logged_by, singly, OwnCalls, EachOwnCalls}
 use Rattle.workload_file.specs.Workload.{StepFits, LinesRise, ScriptFits}
 use Rattle.cluster_core.proofs.EachLemmas.{each_both, each_append, each_always, LastFrom, last_first, last_more}
 

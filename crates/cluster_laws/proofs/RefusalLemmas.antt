@@ -15,9 +15,9 @@ use Rattle.statement_log.specs.declared.entries.Entry.{Entry}
 use Rattle.cluster_core.specs.Node.{NodeView, logged}
 use Rattle.cluster_core.specs.Sessions.{SessionView, unstarted, is_duplicate}
 use Rattle.workload_file.specs.Workload.{LinesRise}
-use Rattle.cluster_core.specs.Headline.{is_duplicate_at, calls_of, logged_by, singly, IsTrueDuplicate, NumbersRise, RefusedTruly, EachRefusedTruly, LoggedTruly}
+use Rattle.cluster_laws.specs.Headline.{is_duplicate_at, calls_of, logged_by, singly, IsTrueDuplicate, NumbersRise, RefusedTruly, EachRefusedTruly, LoggedTruly}
 use Rattle.cluster_core.proofs.EachLemmas.{each_more, each_append, each_rest, each_both}
-use Rattle.cluster_core.proofs.SessionLemmas.{NumbersBelow, LinesBelow, SessionHolds, next_line, calls_same}
+use Rattle.cluster_laws.proofs.SessionLemmas.{NumbersBelow, LinesBelow, SessionHolds, next_line, calls_same}
 
 -- what is a duplicate at a position stays one as the log grows
 duplicate_kept : (source : NodeView) (entry : Entry) (position : ℕ) (statement : Statement)

@@ -1,5 +1,0 @@
-use Rattle.cluster_core.proofs.RunLemmas.{one_end}
-use Rattle.cluster_core.proofs.laws.each_run_has_one_end.Goals as goal
-
-pub returns : goal.returns
-returns c = one_end

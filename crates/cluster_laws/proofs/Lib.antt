@@ -1,0 +1,6 @@
+pub mod EndLemmas
+pub mod HeadlineLemmas
+pub mod MasterLemmas
+pub mod RefusalLemmas
+pub mod SessionLemmas
+pub mod TableLemmas
