@@ -12,7 +12,7 @@ use Rattle.row_types.specs.declared.edges.Span.{Span}
 use Rattle.row_types.specs.Order.{key_cmp, is_past_edge, is_before_edge, has}
 use Rattle.row_types.proofs.OrderLemmas.{key_at_most, key_below}
 use Rattle.row_types.proofs.SpanLemmas.{past_or_before}
-use Rattle.ordered_table.specs.KeyRows.{AreOrdered, rows_past, rows_before, rows_in}
+use Rattle.row_types.specs.KeyRows.{AreOrdered, rows_past, rows_before, rows_in}
 use Rattle.ordered_table.specs.Places.{key_at, is_past, IsCut}
 
 is_less : (o : Ordering) → is_lt o ≡ true → o ≡ Less

@@ -5,3 +5,4 @@ pub mod LawLemmas
 pub mod NeighbourLemmas
 pub mod SchemaLemmas
 pub mod SameLemmas
+pub mod ChangeLemmas

@@ -10,10 +10,10 @@ use Rattle.row_types.specs.declared.edges.Edge.TheVariants.{Before, After}
 use Rattle.row_types.specs.Order.{key_cmp, edge_le, is_past_edge, is_before_edge, has}
 use Rattle.row_types.proofs.OrderLemmas.{key_ties, key_tied, key_turns}
 use Rattle.row_types.proofs.SpanLemmas.{edge_le_trans}
-use Rattle.ordered_table.specs.KeyRows.{AreOrdered, IsBelowAll, is_at, row_at, rows_past, rows_before, row_past, least_past, nth_past, greatest_before}
+use Rattle.row_types.specs.KeyRows.{AreOrdered, IsBelowAll, is_at, row_at, rows_past, rows_before, row_past, least_past, nth_past, greatest_before}
 use Rattle.ordered_table.specs.Neighbours.{HasRowAt, IsLeastPast, IsNonePast, IsGreatestBefore, IsNoneBefore}
-use Rattle.ordered_table.proofs.OrderedLemmas.{below_filtered}
-use Rattle.ordered_table.proofs.LawLemmas.{same_key}
+use Rattle.row_types.proofs.OrderedRowLemmas.{below_filtered}
+use Rattle.row_types.proofs.KeyRowLemmas.{same_key}
 
 there_first : (key_len : ℕ) (key row : List Value) (rows : List (List Value)) (here : Bool) → is_at key_len key row ≡ here
     → is_some (cond here (Some row) (row_at key_len key rows)) ≡ true → (key ≡ take key_len row) ⊎ HasRowAt key_len rows key

@@ -6,7 +6,8 @@ use Rattle.std.specs.declared.cmp.Ordering.TheVariants.{Less, Equal, Greater}
 use Rattle.row_types.specs.declared.values.Value.{Value}
 use Rattle.row_types.specs.Order.{key_cmp}
 use Rattle.row_types.proofs.OrderLemmas.{key_at_most}
-use Rattle.ordered_table.specs.KeyRows.{AreOrdered, IsBelowAll, row_at, put_row, without_key}
+use Rattle.row_types.proofs.SameRowLemmas.{none_below}
+use Rattle.row_types.specs.KeyRows.{AreOrdered, IsBelowAll, row_at, put_row, without_key}
 use Rattle.ordered_table.specs.Places.{is_past, is_there, IsCut, IsTakenAt, IsFreeAt}
 use Rattle.ordered_table.proofs.CutLemmas.{cut_rest}
 
@@ -20,14 +21,7 @@ is_less Less le other = refl
 is_less Equal le other = cc
 is_less Greater le other = cc
 
--- a key below that of the first row is at none
-pub none_below : (key_len : ℕ) (key row : List Value) (rows : List (List Value)) → is_le (key_cmp key (take key_len row)) ≡ true → IsBelowAll key_len row rows → row_at key_len key rows ≡ None
-none_below key_len key row [] below all = refl
-none_below key_len key row (other ∷ others) below all =
-    ap (λ (o : Ordering). cond (is_eq o) (Some other) (row_at key_len key others)) (key_at_most key (take key_len row) (take key_len other) below all.0)
-    ∙ none_below key_len key row others below all.1
-
--- and taking it away leaves the rows
+-- a key below that of the first row is at none, and taking it away leaves the rows
 pub all_left : (key_len : ℕ) (key row : List Value) (rows : List (List Value)) → is_le (key_cmp key (take key_len row)) ≡ true → IsBelowAll key_len row rows → without_key key_len key rows ≡ rows
 all_left key_len key row [] below all = refl
 all_left key_len key row (other ∷ others) below all =

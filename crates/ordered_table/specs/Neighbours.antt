@@ -4,7 +4,7 @@ use Rattle.row_types.specs.declared.values.Value.{Value}
 use Rattle.row_types.specs.declared.edges.Edge.{Edge}
 use Rattle.row_types.specs.declared.edges.Edge.TheVariants.{Before, After}
 use Rattle.row_types.specs.Order.{is_past_edge, is_before_edge, has}
-use Rattle.ordered_table.specs.KeyRows.{row_at}
+use Rattle.row_types.specs.KeyRows.{row_at}
 
 -- one of the rows has the key
 abbrev pub HasRowAt : ℕ → List (List Value) → List Value → Type 0

@@ -7,7 +7,7 @@ use Rattle.row_types.specs.declared.values.Value.{Value}
 use Rattle.row_types.specs.Order.{key_cmp}
 use Rattle.ordered_table.specs.declared.places.Place.{Place}
 use Rattle.ordered_table.specs.declared.places.Place.TheVariants.{Taken, Free}
-use Rattle.ordered_table.specs.KeyRows.{is_at, row_at, put_row, without_key}
+use Rattle.row_types.specs.KeyRows.{is_at, row_at, put_row, without_key}
 
 -- the key of the row of this number
 abbrev pub key_at : ℕ → List (List Value) → ℕ → List Value

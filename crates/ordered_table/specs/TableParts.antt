@@ -1,7 +1,7 @@
 -- What a table keeps, and what always holds of it.
 use Rattle.std.specs.Prelude.{◌≤◌, ◌+◌, vec_len, vec_capacity}
 use Rattle.ordered_table.specs.declared.tables.Table.TheInside.{Inside}
-use Rattle.ordered_table.specs.KeyRows.{AreOrdered}
+use Rattle.row_types.specs.KeyRows.{AreOrdered}
 use Rattle.ordered_table.specs.TableView.{TableView}
 
 abbrev pub table_view : Inside → TableView

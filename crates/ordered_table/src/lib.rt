@@ -9,8 +9,3 @@ pub mod tables;
 
 pub use rows_ahead::RowsAhead;
 pub use tables::Table;
-
-#[cfg(test)]
-mod map_tests;
-#[cfg(test)]
-mod tests;

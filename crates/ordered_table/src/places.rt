@@ -1,7 +1,7 @@
 ghost use Rattle.std.specs.Prelude.{◌≡◌, ◌↔◌, IsTrue, take, option_copied, option_map};
 ghost use Rattle.std.specs.List.{AllByRecursion};
 ghost use Rattle.row_types.specs.Order.{is_past_edge};
-ghost use Rattle.ordered_table.specs.KeyRows.{AreOrdered, IsNotNull, rows_past, rows_before};
+ghost use Rattle.row_types.specs.KeyRows.{AreOrdered, IsNotNull, rows_past, rows_before};
 ghost use Rattle.ordered_table.specs.Places.{IsCut, IsPlaced, is_past, is_there};
 
 use row_types::keys::compare_values;
@@ -14,7 +14,7 @@ pub(crate) enum Place {
     Free(usize),
 }
 
-/// The place of a key among rows by rising key, found by halving.
+/// The place of a key among rows by rising key, found by binary search.
 pub(crate) fn place_of(rows: &[Row], key_len: u8, key: &[Value]) -> Place
     requires { AreOrdered key_len rows.now }
     ensures { IsPlaced key_len key.now rows.now result }

@@ -6,7 +6,7 @@ ghost use Rattle.row_types.specs.declared.edges.Span.{Span};
 ghost use Rattle.row_types.specs.declared.table_schema.Schema.{Schema};
 ghost use Rattle.row_types.specs.Order.{has};
 ghost use Rattle.row_types.specs.Fit.{RowFits, IsSchema, IsTable, with_row};
-ghost use Rattle.ordered_table.specs.KeyRows.{HasKey, AreOrdered, row_at, put_row, without_key, rows_in, least_past, nth_past, greatest_before};
+ghost use Rattle.row_types.specs.KeyRows.{HasKey, AreOrdered, row_at, put_row, without_key, rows_in, least_past, nth_past, greatest_before};
 ghost use Rattle.ordered_table.specs.Neighbours.{IsLeastPast, IsNonePast, IsGreatestBefore, IsNoneBefore};
 
 /// The row that is found at a key has that key.

@@ -1,5 +1,5 @@
 ghost use Rattle.std.specs.Prelude.{◌≡◌, ◌≤◌, ◌<◌, ◌-◌, ◌^◌, ◌↔◌, [], length, take, slice_get, option_copied, is_some, if◌then◌else◌, None, IsTrue, IfOk, IfErr, OnOk, OnErr};
-ghost use Rattle.ordered_table.specs.KeyRows.{HasKey, AreOrdered, row_at, put_row, without_key, rows_in, rows_past, rows_before, row_past, least_past, nth_past, greatest_before};
+ghost use Rattle.row_types.specs.KeyRows.{HasKey, AreOrdered, row_at, put_row, without_key, rows_in, rows_past, rows_before, row_past, least_past, nth_past, greatest_before};
 ghost use Rattle.ordered_table.specs.TableView.{TableView};
 
 use crate::places::{Place, has_no_null, key_of, key_values, place_of, rows_before, rows_past};
@@ -126,36 +126,43 @@ impl Table {
 
     /// The row of the least key past the edge, none where no key is past it.
     pub fn row_past(&self, edge: &Edge) -> Option<&Row>
-        ensures { option_copied result ≡ row_past self.now.key_len edge.now self.now.rows }
+        ensures value { option_copied result ≡ row_past self.now.key_len edge.now self.now.rows }
+        ensures ordered { AreOrdered self.now.key_len self.now.rows }
     {
         self.past(edge).first()
     }
 
     /// The values of the least key past the edge, none where no key is past it.
     pub fn next(&self, edge: &Edge) -> Option<&[Value]>
-        ensures { option_copied result ≡ least_past self.now.key_len edge.now self.now.rows }
+        ensures value { option_copied result ≡ least_past self.now.key_len edge.now self.now.rows }
+        ensures ordered { AreOrdered self.now.key_len self.now.rows }
     {
         key_of(self.row_past(edge), self.key_len)
     }
 
-    /// The values of the greatest key before the edge, none where no key is before it.
+    /// The values of the greatest key before the edge, none where no key is before it. For the gap
+    /// before a key that a walk locks.
     pub fn prev(&self, edge: &Edge) -> Option<&[Value]>
-        ensures { option_copied result ≡ greatest_before self.now.key_len edge.now self.now.rows }
+        ensures value { option_copied result ≡ greatest_before self.now.key_len edge.now self.now.rows }
+        ensures ordered { AreOrdered self.now.key_len self.now.rows }
     {
         key_of(self.before(edge).last(), self.key_len)
     }
 
-    /// The values of the n-th key past the edge, counted from 1; none where fewer keys are past it.
+    /// The values of the n-th key past the edge, counted from 1; none where fewer keys are past it. For
+    /// the upper edge of a chunk of `n` rows.
     pub fn nth(&self, edge: &Edge, n: u64) -> Option<&[Value]>
         requires { 1 ≤ n }
-        ensures { option_copied result ≡ nth_past self.now.key_len edge.now n self.now.rows }
+        ensures value { option_copied result ≡ nth_past self.now.key_len edge.now n self.now.rows }
+        ensures ordered { AreOrdered self.now.key_len self.now.rows }
     {
         key_of(item_at(self.past(edge), n - 1), self.key_len)
     }
 
     /// Copies of the rows whose keys are in the span, by rising key.
     pub fn rows(&self, alloc: Global, span: &Span) -> R<Rows>
-        ensures { IfOk result (λ rows. rows ≡ rows_in self.now.key_len span.now self.now.rows) }
+        ensures value { IfOk result (λ rows. rows ≡ rows_in self.now.key_len span.now self.now.rows) }
+        ensures ordered { AreOrdered self.now.key_len self.now.rows }
     {
         Ok(Rows {
             items: Row::copies(alloc, self.each(span).rows)?,
@@ -165,7 +172,8 @@ impl Table {
     /// The rows whose keys are in the span, to be gone over by rising key.
     #[tactic(auto, using(crate::proofs::CutLemmas::span_is))]
     pub fn each(&self, span: &Span) -> RowsAhead<'_>
-        ensures { result ≡ rows_in self.now.key_len span.now self.now.rows }
+        ensures value { result ≡ rows_in self.now.key_len span.now self.now.rows }
+        ensures ordered { AreOrdered self.now.key_len self.now.rows }
     {
         RowsAhead {
             rows: rows_past(self.before(&span.hi), self.key_len, &span.lo),
@@ -174,7 +182,8 @@ impl Table {
 
     /// All rows, to be gone over by rising key.
     pub fn all(&self) -> RowsAhead<'_>
-        ensures { result ≡ self.now.rows }
+        ensures value { result ≡ self.now.rows }
+        ensures ordered { AreOrdered self.now.key_len self.now.rows }
     {
         RowsAhead {
             rows: self.rows.as_slice(),
@@ -190,13 +199,14 @@ impl Table {
 
     /// The rows whose keys are past the edge.
     fn past(&self, edge: &Edge) -> &[Row]
-        ensures { result.now ≡ rows_past self.now.key_len edge.now self.now.rows }
+        ensures value { result.now ≡ rows_past self.now.key_len edge.now self.now.rows }
+        ensures ordered { AreOrdered self.now.key_len self.now.rows }
     {
         rows_past(self.rows.as_slice(), self.key_len, edge)
     }
 
     /// The rows whose keys are before the edge.
-    #[tactic(auto, using(crate::proofs::OrderedLemmas::filter_ordered))]
+    #[tactic(auto, using(row_types::proofs::OrderedRowLemmas::filter_ordered))]
     fn before(&self, edge: &Edge) -> &[Row]
         ensures rows { result.now ≡ rows_before self.now.key_len edge.now self.now.rows }
         ensures ordered { AreOrdered self.now.key_len result.now }

@@ -27,6 +27,3 @@ pub use row_faults::RowFault;
 pub use table_rows::{Row, Rows, Tables};
 pub use table_schema::{Column, ColumnKind, Columns, Schema, SchemaList, Schemas};
 pub use values::Value;
-
-#[cfg(test)]
-mod tests;

@@ -12,9 +12,9 @@ pub loop-row-init : goal.loop-row-init
 loop-row-init c =
     let none = ap (λ (d : Digest). d.count) c.empty_digest-digest.ensures in
     record {
-      encodable = subst (AllByRecursion IsEncodable) (sym c.each-ahead.ensures)
+      encodable = subst (AllByRecursion IsEncodable) (sym c.each-ahead.ensures.value)
           (each_filtered IsEncodable _ c.args.table.now.rows c.requires);
       countable = omega (arith, none);
       summed = ap (added_rows c.args.kind c.each-ahead.result) c.empty_digest-digest.ensures
-          ∙ ap (λ (rows : List (List Value)). added_rows c.args.kind rows no_rows) c.each-ahead.ensures;
+          ∙ ap (λ (rows : List (List Value)). added_rows c.args.kind rows no_rows) c.each-ahead.ensures.value;
     }

@@ -1,6 +1,6 @@
 use Rattle.std.proofs.Common.{◌↔◌, length}
 use Rattle.std.specs.List.{AllByRecursion}
-use Rattle.ordered_table.specs.KeyRows.{IsNotNull}
+use Rattle.row_types.specs.KeyRows.{IsNotNull}
 use Rattle.ordered_table.proofs.places.has_no_null.Given as goal
 
 abbrev pub invariant-loop-first : goal.invariant-loop-first

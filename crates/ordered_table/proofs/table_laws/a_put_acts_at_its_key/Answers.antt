@@ -1,5 +1,5 @@
-use Rattle.ordered_table.proofs.OrderedLemmas.{put_ordered}
-use Rattle.ordered_table.proofs.LawLemmas.{put_there, put_elsewhere}
+use Rattle.row_types.proofs.OrderedRowLemmas.{put_ordered}
+use Rattle.row_types.proofs.KeyRowLemmas.{put_there, put_elsewhere}
 use Rattle.ordered_table.proofs.table_laws.a_put_acts_at_its_key.Goals as goal
 
 pub returns-clause-ordered : goal.returns-clause-ordered

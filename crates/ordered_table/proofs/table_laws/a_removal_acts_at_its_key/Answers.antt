@@ -1,8 +1,8 @@
 use Rattle.std.proofs.Common.{not, List}
 use Rattle.row_types.specs.declared.values.Value.{Value}
-use Rattle.ordered_table.specs.KeyRows.{is_at}
-use Rattle.ordered_table.proofs.OrderedLemmas.{filter_ordered}
-use Rattle.ordered_table.proofs.LawLemmas.{removed_gone, removed_elsewhere}
+use Rattle.row_types.specs.KeyRows.{is_at}
+use Rattle.row_types.proofs.OrderedRowLemmas.{filter_ordered}
+use Rattle.row_types.proofs.KeyRowLemmas.{removed_gone, removed_elsewhere}
 use Rattle.ordered_table.proofs.table_laws.a_removal_acts_at_its_key.Goals as goal
 
 pub returns-clause-ordered : goal.returns-clause-ordered

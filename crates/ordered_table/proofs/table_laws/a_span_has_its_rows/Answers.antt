@@ -1,8 +1,8 @@
 use Rattle.std.proofs.Common.{take, List}
 use Rattle.row_types.specs.declared.values.Value.{Value}
 use Rattle.row_types.specs.Order.{has}
-use Rattle.ordered_table.proofs.OrderedLemmas.{filter_ordered}
-use Rattle.ordered_table.proofs.LawLemmas.{part_at}
+use Rattle.row_types.proofs.OrderedRowLemmas.{filter_ordered}
+use Rattle.row_types.proofs.KeyRowLemmas.{part_at}
 use Rattle.ordered_table.proofs.table_laws.a_span_has_its_rows.Goals as goal
 
 pub returns-clause-ordered : goal.returns-clause-ordered

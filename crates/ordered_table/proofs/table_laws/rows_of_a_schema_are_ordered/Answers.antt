@@ -1,4 +1,4 @@
-use Rattle.ordered_table.proofs.SchemaLemmas.{fitting_key, table_ordered, with_is_put}
+use Rattle.row_types.proofs.SchemaRowLemmas.{fitting_key, table_ordered, with_is_put}
 use Rattle.ordered_table.proofs.table_laws.rows_of_a_schema_are_ordered.Goals as goal
 
 pub returns-clause-ordered : goal.returns-clause-ordered

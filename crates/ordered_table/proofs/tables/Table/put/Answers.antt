@@ -1,7 +1,8 @@
 use Rattle.std.proofs.Common.{◌≡◌, ap, sym, subst, arith}
-use Rattle.ordered_table.specs.KeyRows.{HasKey, AreOrdered, put_row}
+use Rattle.row_types.specs.KeyRows.{HasKey, AreOrdered, put_row}
 use Rattle.ordered_table.specs.TableView.{TableView}
-use Rattle.ordered_table.proofs.OrderedLemmas.{put_ordered, put_taken, put_free}
+use Rattle.row_types.proofs.OrderedRowLemmas.{put_ordered}
+use Rattle.ordered_table.proofs.ChangeLemmas.{put_taken, put_free}
 use Rattle.ordered_table.proofs.tables.Table.put.Goals as goal
 
 pub invariant_of-self : goal.invariant_of-self

@@ -1,7 +1,8 @@
 use Rattle.std.proofs.Common.{◌≡◌, ◌≤◌, ap, sym, subst, refl, None, take, arith}
-use Rattle.ordered_table.specs.KeyRows.{HasKey, AreOrdered, row_at, put_row}
+use Rattle.row_types.specs.KeyRows.{HasKey, AreOrdered, row_at, put_row}
 use Rattle.ordered_table.specs.TableView.{TableView}
-use Rattle.ordered_table.proofs.OrderedLemmas.{put_ordered, put_taken, put_free, absent_free}
+use Rattle.row_types.proofs.OrderedRowLemmas.{put_ordered}
+use Rattle.ordered_table.proofs.ChangeLemmas.{put_taken, put_free, absent_free}
 use Rattle.ordered_table.proofs.tables.Table.put_back.Goals as goal
 
 pub invariant_of-self : goal.invariant_of-self

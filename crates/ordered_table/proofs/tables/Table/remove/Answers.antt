@@ -1,7 +1,8 @@
 use Rattle.std.proofs.Common.{◌≡◌, subst, not, List, arith}
 use Rattle.row_types.specs.declared.values.Value.{Value}
-use Rattle.ordered_table.specs.KeyRows.{AreOrdered, is_at, without_key}
-use Rattle.ordered_table.proofs.OrderedLemmas.{filter_ordered, left_taken}
+use Rattle.row_types.specs.KeyRows.{AreOrdered, is_at, without_key}
+use Rattle.row_types.proofs.OrderedRowLemmas.{filter_ordered}
+use Rattle.ordered_table.proofs.ChangeLemmas.{left_taken}
 use Rattle.ordered_table.proofs.tables.Table.remove.Goals as goal
 
 pub invariant_of-self : goal.invariant_of-self

@@ -1,28 +1,8 @@
-use crate::{RowsAhead, Table};
-use row_types::{Bytes, Edge, Key, Memory, R, Row, Span, Value};
+use ordered_table::{RowsAhead, Table};
+use row_types::{Edge, Key, Memory, R, Row, Span, Value};
 use std::alloc::Global;
-
-fn row(alloc: Global, id: i64, v: i64) -> R<Row> {
-    let mut row = Row::new(alloc);
-    row.push(Value::Int(id))?;
-    row.push(Value::Int(v))?;
-    Ok(row)
-}
-
-fn key(alloc: Global, id: i64) -> R<Key> {
-    let mut key = Key::new(alloc);
-    key.push(Value::Int(id))?;
-    Ok(key)
-}
-
-/// A key of a number and a text.
-fn key_of_two(alloc: Global, id: i64, text: &[u8]) -> R<Key> {
-    let mut key = key(alloc, id)?;
-    key.push(Value::Text(Bytes {
-        items: Vec::from_slice(alloc, text)?,
-    }))?;
-    Ok(key)
-}
+use std::test::Fail;
+use test_builders::{key, key_of_two, keys_between, null_row, row};
 
 /// Puts a row that the table takes.
 fn put(table: &mut Table, row: Row) -> R<Option<Row>> {
@@ -94,30 +74,31 @@ fn have_ids(ahead: RowsAhead, ids: &[i64]) -> bool {
 
 /// An empty table has nothing anywhere.
 #[test]
-fn an_empty_table_has_no_rows(rt: HostRuntime) {
+fn an_empty_table_has_no_rows(rt: HostRuntime) -> Result<(), Fail> {
     let alloc = rt.alloc();
     let mut table = Table::new(alloc, 2);
-    let ten = key(alloc, 10).expect(&rt, "memory");
+    let ten = key(alloc, 10)?;
     assert!(rt; table.is_empty() && table.len() == 0 && table.key_len() == 2);
     assert!(rt; table.get(&ten).is_none() && table.remove(&ten).is_none());
     assert!(rt; table.next(&Edge::Low).is_none() && table.prev(&Edge::High).is_none());
     assert!(rt; table.nth(&Edge::Low, 1).is_none() && table.row_past(&Edge::Low).is_none());
-    let rows = table.rows(alloc, &Span::whole()).expect(&rt, "memory");
+    let rows = table.rows(alloc, &Span::whole())?;
     assert!(rt; rows.is_empty());
+    Ok(())
 }
 
 /// A row is found at its key alone, and a second one there takes its place.
 #[test]
-fn rows_are_put_and_taken_away(rt: HostRuntime) {
+fn rows_are_put_and_taken_away(rt: HostRuntime) -> Result<(), Fail> {
     let alloc = rt.alloc();
-    let mut table = three(alloc).expect(&rt, "memory");
-    let fifteen = key(alloc, 15).expect(&rt, "memory");
-    let sixteen = key(alloc, 16).expect(&rt, "memory");
+    let mut table = three(alloc)?;
+    let fifteen = key(alloc, 15)?;
+    let sixteen = key(alloc, 16)?;
     assert!(rt; table.len() == 3 && is_row(table.get(&fifteen), 15, 7));
     assert!(rt; is_row(table.get_at(fifteen.as_slice()), 15, 7) && table.get_at(&[]).is_none());
     assert!(rt; table.get(&sixteen).is_none());
-    let new = row(alloc, 15, 8).expect(&rt, "memory");
-    let replaced = put(&mut table, new).expect(&rt, "memory");
+    let new = row(alloc, 15, 8)?;
+    let replaced = put(&mut table, new)?;
     assert!(rt; is_row(replaced.as_ref(), 15, 7));
     assert!(rt; table.len() == 3 && is_row(table.get(&fifteen), 15, 8));
     assert!(rt; table.remove(&sixteen).is_none() && table.len() == 3);
@@ -126,30 +107,32 @@ fn rows_are_put_and_taken_away(rt: HostRuntime) {
     assert!(rt; table.get(&fifteen).is_none() && table.len() == 2);
     assert!(rt; have_ids(table.each(&Span::whole()), &[10, 20]));
     assert!(rt; table.all().len() == 2 && !table.all().is_empty());
+    Ok(())
 }
 
 /// Tables have the same rows where each row has the same values.
 #[test]
-fn tables_are_compared(rt: HostRuntime) {
+fn tables_are_compared(rt: HostRuntime) -> Result<(), Fail> {
     let alloc = rt.alloc();
-    let table = three(alloc).expect(&rt, "memory");
-    let mut other = three(alloc).expect(&rt, "memory");
+    let table = three(alloc)?;
+    let mut other = three(alloc)?;
     assert!(rt; table.same_rows(&other) && other.same_rows(&table));
-    let changed = row(alloc, 15, 8).expect(&rt, "memory");
-    put(&mut other, changed).expect(&rt, "memory");
+    let changed = row(alloc, 15, 8)?;
+    put(&mut other, changed)?;
     assert!(rt; !table.same_rows(&other));
-    other.remove(&key(alloc, 15).expect(&rt, "memory"));
+    other.remove(&key(alloc, 15)?);
     assert!(rt; !table.same_rows(&other) && !table.same_rows(&Table::new(alloc, 1)));
+    Ok(())
 }
 
 /// The keys on both sides of each edge, and the first to the fourth past it.
 #[test]
-fn edges_lie_between_keys(rt: HostRuntime) {
+fn edges_lie_between_keys(rt: HostRuntime) -> Result<(), Fail> {
     let alloc = rt.alloc();
-    let table = three(alloc).expect(&rt, "memory");
-    let before = Edge::Before(key(alloc, 15).expect(&rt, "memory"));
-    let after = Edge::After(key(alloc, 15).expect(&rt, "memory"));
-    let absent = Edge::After(key(alloc, 12).expect(&rt, "memory"));
+    let table = three(alloc)?;
+    let before = Edge::Before(key(alloc, 15)?);
+    let after = Edge::After(key(alloc, 15)?);
+    let absent = Edge::After(key(alloc, 12)?);
     assert!(rt; is_key(table.next(&Edge::Low), Some(10)) && is_key(table.prev(&Edge::Low), None));
     assert!(rt; is_key(table.next(&before), Some(15)) && is_key(table.prev(&before), Some(10)));
     assert!(rt; is_key(table.next(&after), Some(20)) && is_key(table.prev(&after), Some(15)));
@@ -159,81 +142,73 @@ fn edges_lie_between_keys(rt: HostRuntime) {
     assert!(rt; is_key(table.nth(&before, 1), Some(15)) && is_key(table.nth(&before, 2), Some(20)));
     assert!(rt; is_key(table.nth(&before, 3), None) && is_key(table.nth(&Edge::Low, 3), Some(20)));
     assert!(rt; is_key(table.nth(&Edge::Low, u64::MAX), None));
+    Ok(())
 }
 
 /// The rows of a span, at its edges and where its edges leave none.
 #[test]
-fn spans_have_rows(rt: HostRuntime) {
+fn spans_have_rows(rt: HostRuntime) -> Result<(), Fail> {
     let alloc = rt.alloc();
-    let table = three(alloc).expect(&rt, "memory");
+    let table = three(alloc)?;
     let open = Span {
-        lo: Edge::After(key(alloc, 10).expect(&rt, "memory")),
-        hi: Edge::Before(key(alloc, 20).expect(&rt, "memory")),
+        lo: Edge::After(key(alloc, 10)?),
+        hi: Edge::Before(key(alloc, 20)?),
     };
-    let rows = table.rows(alloc, &open).expect(&rt, "memory");
+    let rows = table.rows(alloc, &open)?;
     assert!(rt; rows.len() == 1 && is_row(rows.as_slice().first(), 15, 7));
-    let closed = Span {
-        lo: Edge::Before(key(alloc, 10).expect(&rt, "memory")),
-        hi: Edge::After(key(alloc, 20).expect(&rt, "memory")),
-    };
-    let rows = table.rows(alloc, &closed).expect(&rt, "memory");
+    let closed = keys_between(alloc, 10, 20)?;
+    let rows = table.rows(alloc, &closed)?;
     assert!(rt; rows.len() == 3 && have_ids(table.each(&closed), &[10, 15, 20]));
     let crossed = Span {
         lo: closed.hi,
         hi: closed.lo,
     };
-    let rows = table.rows(alloc, &crossed).expect(&rt, "memory");
+    let rows = table.rows(alloc, &crossed)?;
     assert!(rt; rows.is_empty() && have_ids(table.each(&crossed), &[]));
+    Ok(())
 }
 
 /// Keys of two columns, with edges at a first column alone.
 #[test]
-fn keys_have_two_columns(rt: HostRuntime) {
+fn keys_have_two_columns(rt: HostRuntime) -> Result<(), Fail> {
     let alloc = rt.alloc();
     let mut table = Table::new(alloc, 2);
     for (id, text) in [(2, b"a"), (1, b"b"), (1, b"a")] {
-        let key = key_of_two(alloc, id, text).expect(&rt, "memory");
-        put(&mut table, Row { items: key.items }).expect(&rt, "memory");
+        let key = key_of_two(alloc, id, text)?;
+        put(&mut table, Row { items: key.items })?;
     }
-    let first = key_of_two(alloc, 1, b"a").expect(&rt, "memory");
-    let second = key_of_two(alloc, 1, b"b").expect(&rt, "memory");
-    let one = key(alloc, 1).expect(&rt, "memory");
+    let first = key_of_two(alloc, 1, b"a")?;
+    let second = key_of_two(alloc, 1, b"b")?;
+    let one = key(alloc, 1)?;
     assert!(rt; table.get(&first).is_some() && table.get(&one).is_none());
     let next = table.next(&Edge::After(one)).expect(&rt, "a key");
-    let next = Key::from_values(alloc, next).expect(&rt, "memory");
+    let next = Key::from_values(alloc, next)?;
     assert!(rt; next.same(&first));
     let next = table.next(&Edge::After(first)).expect(&rt, "a key");
-    let next = Key::from_values(alloc, next).expect(&rt, "memory");
+    let next = Key::from_values(alloc, next)?;
     assert!(rt; next.same(&second));
     assert!(rt; have_ids(table.each(&Span::whole()), &[1, 1, 2]));
-    assert!(rt; !table.takes(&row_without_key(alloc).expect(&rt, "memory")));
+    assert!(rt; !table.takes(&null_row(alloc, 1)?));
     assert!(rt; !table.takes(&Row::new(alloc)));
+    Ok(())
 }
 
-/// A row whose second value is NULL.
-fn row_without_key(alloc: Global) -> R<Row> {
-    let mut row = Row::new(alloc);
-    row.push(Value::Int(1))?;
-    row.push(Value::Null)?;
-    Ok(row)
-}
-
-/// Room that is promised stays until rows are put back, whatever is put in or taken away.
+/// Reserved capacity that is promised stays until rows are put back, whatever is put in or taken away.
 #[test]
-fn room_is_promised(rt: HostRuntime) {
+fn room_is_promised(rt: HostRuntime) -> Result<(), Fail> {
     let alloc = rt.alloc();
-    let mut table = three(alloc).expect(&rt, "memory");
+    let mut table = three(alloc)?;
     assert!(rt; table.spare() == 0);
-    let again = row(alloc, 15, 9).expect(&rt, "memory");
+    let again = row(alloc, 15, 9)?;
     let replaced = put_back(alloc, &mut table, again).expect(&rt, "a present key");
     assert!(rt; is_row(replaced.as_ref(), 15, 7) && table.spare() == 0);
-    table.reserve(2).expect(&rt, "memory");
-    let fifteen = key(alloc, 15).expect(&rt, "memory");
+    table.reserve(2)?;
+    let fifteen = key(alloc, 15)?;
     let taken = table.remove(&fifteen).expect(&rt, "a row");
-    let other = row(alloc, 1, 1).expect(&rt, "memory");
-    put(&mut table, other).expect(&rt, "memory");
+    let other = row(alloc, 1, 1)?;
+    put(&mut table, other)?;
     assert!(rt; table.spare() >= 2);
-    table.reserve(1).expect(&rt, "memory");
+    table.reserve(1)?;
     assert!(rt; table.spare() >= 2);
     let spare = table.spare();
     let replaced = put_back(alloc, &mut table, taken).expect(&rt, "room");
@@ -242,6 +217,7 @@ fn room_is_promised(rt: HostRuntime) {
     assert!(rt; have_ids(table.each(&Span::whole()), &[1, 10, 15, 20]));
     let room = table.reserve(u64::MAX);
     assert!(rt; room.is_err() && table.spare() == spare - 1 && table.len() == 4);
+    Ok(())
 }
 
 /// A number below 2,003, another for each number below 2,003.
@@ -278,7 +254,7 @@ fn rising(ahead: RowsAhead) -> Option<usize> {
 }
 
 /// A table of copies of a table's rows.
-#[tactic(auto, using(crate::proofs::OrderedLemmas::filter_ordered))]
+#[tactic(auto, using(ordered_table::proofs::OrderedLemmas::filter_ordered))]
 fn copy_of(alloc: Global, table: &Table) -> R<Table> {
     let rows = table.rows(alloc, &Span::whole())?;
     if rows.len() != table.len() {
@@ -289,16 +265,17 @@ fn copy_of(alloc: Global, table: &Table) -> R<Table> {
 
 /// Rows put in any order come out by rising key, and a table is made of them again.
 #[test]
-fn many_rows_rise_by_key(rt: HostRuntime) {
+fn many_rows_rise_by_key(rt: HostRuntime) -> Result<(), Fail> {
     let alloc = rt.alloc();
-    let table = many(alloc).expect(&rt, "memory");
+    let table = many(alloc)?;
     assert!(rt; table.len() == 2000 && rising(table.each(&Span::whole())) == Some(2000));
     for number in [0, 1, 999, 1999u16] {
         let id = scattered(number);
-        let key = key(alloc, id).expect(&rt, "memory");
+        let key = key(alloc, id)?;
         assert!(rt; is_row(table.get(&key), id, number as i64), "row {number}");
     }
     assert!(rt; is_key(table.prev(&Edge::High), Some(2002)));
-    let copy = copy_of(alloc, &table).expect(&rt, "memory");
+    let copy = copy_of(alloc, &table)?;
     assert!(rt; copy.len() == 2000 && rising(copy.each(&Span::whole())) == Some(2000));
+    Ok(())
 }

@@ -1,8 +1,10 @@
 //! Tables beside std's ordered map: what each of many calls answers, and the rows that they leave.
-use crate::Table;
-use row_types::{Key, Memory, R, Row, Value};
+use ordered_table::Table;
+use row_types::{Memory, R, Row, Value};
 use std::alloc::Global;
 use std::collections::BTreeMap;
+use std::test::Fail;
+use test_builders::{key, row};
 
 /// How many keys are put in.
 const KEYS: u16 = 10_000;
@@ -29,19 +31,6 @@ fn key_of(order: KeyOrder, number: u16) -> i64 {
 struct Both {
     table: Table,
     map: BTreeMap<i64, i64>,
-}
-
-fn row(alloc: Global, id: i64, v: i64) -> R<Row> {
-    let mut row = Row::new(alloc);
-    row.push(Value::Int(id))?;
-    row.push(Value::Int(v))?;
-    Ok(row)
-}
-
-fn key(alloc: Global, id: i64) -> R<Key> {
-    let mut key = Key::new(alloc);
-    key.push(Value::Int(id))?;
-    Ok(key)
 }
 
 /// Whether a row and an entry of the map are both absent, or have these values.
@@ -148,16 +137,19 @@ fn keeps_to_the_map(alloc: Global, order: KeyOrder) -> R<bool> {
 }
 
 #[test]
-fn keys_in_rising_order(rt: HostRuntime) {
-    assert!(rt; keeps_to_the_map(rt.alloc(), KeyOrder::Rising).expect(&rt, "memory"));
+fn keys_in_rising_order(rt: HostRuntime) -> Result<(), Fail> {
+    assert!(rt; keeps_to_the_map(rt.alloc(), KeyOrder::Rising)?);
+    Ok(())
 }
 
 #[test]
-fn keys_in_falling_order(rt: HostRuntime) {
-    assert!(rt; keeps_to_the_map(rt.alloc(), KeyOrder::Falling).expect(&rt, "memory"));
+fn keys_in_falling_order(rt: HostRuntime) -> Result<(), Fail> {
+    assert!(rt; keeps_to_the_map(rt.alloc(), KeyOrder::Falling)?);
+    Ok(())
 }
 
 #[test]
-fn keys_in_mixed_order(rt: HostRuntime) {
-    assert!(rt; keeps_to_the_map(rt.alloc(), KeyOrder::Mixed).expect(&rt, "memory"));
+fn keys_in_mixed_order(rt: HostRuntime) -> Result<(), Fail> {
+    assert!(rt; keeps_to_the_map(rt.alloc(), KeyOrder::Mixed)?);
+    Ok(())
 }
