@@ -1,7 +1,7 @@
 ghost use Rattle.std.specs.Prelude.{◌≡◌, ◌↔◌, IsTrue, IfOk};
 ghost use Rattle.checksum_table.specs.Checks.{verdict_of_row};
 
-use row_types::{Digest, DigestKind, R, Span};
+use row_types::{Digest, DigestKind, Plain, R, Span};
 use std::alloc::Global;
 
 /// A chunk's row of the checksums table, as one node has it: what its CHECKSUM was asked, the
@@ -110,5 +110,15 @@ impl CheckEntry {
         ensures { IsTrue result ↔ (self.now ≡ other.now) }
     {
         self.table == other.table && self.chunk == other.chunk && self.row.same(&other.row)
+    }
+}
+
+impl Plain for CheckEntry {
+    fn copy(&self, alloc: Global) -> R<CheckEntry> {
+        CheckEntry::copy(self, alloc)
+    }
+
+    fn same(&self, other: &CheckEntry) -> bool {
+        CheckEntry::same(self, other)
     }
 }

@@ -4,7 +4,7 @@ ghost use Rattle.checksum_table.specs.Checks.{check_at, with_check, with_absent,
 
 use crate::check_rows::{CheckEntry, CheckRow, Verdict};
 use crate::places::{forget_table, last_chunk, place_of, put, put_absent, put_master};
-use row_types::{Digest, R};
+use row_types::{Digest, Plain, R};
 use std::alloc::Global;
 use std::marker::Model;
 
@@ -59,23 +59,14 @@ impl Checks {
         ensures { IfOk result (λ copy. copy ≡ self.now) }
     {
         Ok(Checks {
-            items: copy_entries(self.items.as_slice(), alloc)?,
+            items: CheckEntry::copies(alloc, self.items.as_slice())?,
         })
     }
 
     pub fn same(&self, other: &Checks) -> bool
         ensures { IsTrue result ↔ (self.now ≡ other.now) }
     {
-        let (ours, theirs) = (self.items.as_slice(), other.items.as_slice());
-        if ours.len() != theirs.len() {
-            return false;
-        }
-        for i in 0..ours.len() {
-            if !ours[i].same(&theirs[i]) {
-                return false;
-            }
-        }
-        true
+        CheckEntry::all_same(self.items.as_slice(), other.items.as_slice())
     }
 
     /// Pending without a row or without the source's checksum; Differ where its count or XOR is not
@@ -89,7 +80,7 @@ impl Checks {
         }
     }
 
-    /// The chunk's row, if there is one, found by halving.
+    /// The chunk's row, if there is one, found by binary search.
     pub fn get(&self, table: u32, chunk: u32) -> Option<&CheckRow>
         ensures { option_copied result ≡ check_at table chunk self.now }
     {
@@ -127,7 +118,8 @@ impl Checks {
         forget_table(&mut self.items, table);
     }
 
-    /// The greatest chunk of a table that has a row, 0 where none has; found by halving.
+    /// The greatest chunk of a table that has a row, 0 where none has; found by binary search. For a
+    /// checksum that goes on after the chunks that it has done.
     pub fn last_of(&self, table: u32) -> u32
         ensures { result ≡ last_chunk table self.now }
     {
@@ -142,14 +134,4 @@ impl Checks {
     {
         put_absent(&mut self.items, entry)
     }
-}
-
-fn copy_entries(entries: &[CheckEntry], alloc: Global) -> R<Vec<CheckEntry>>
-    ensures { IfOk result (λ copy. copy.items ≡ entries.now) }
-{
-    let mut items = Vec::new(alloc);
-    for entry in entries {
-        items.push(entry.copy(alloc)?)?;
-    }
-    Ok(items)
 }

@@ -1,4 +1,4 @@
-//! Places of chunks among entries by rising table and chunk, found by halving, and changes there.
+//! Places of chunks among entries by rising table and chunk, found by binary search, and changes there.
 ghost use Rattle.std.specs.Prelude.{◌≡◌, IfOk, IfErr, OnOk, OnErr};
 ghost use Rattle.std.specs.Option.{is_some};
 ghost use Rattle.checksum_table.specs.Checks.{check_at, with_check, with_absent, with_master, without_table, last_chunk, IsByPlace};
@@ -7,7 +7,7 @@ ghost use Rattle.checksum_table.specs.Places.{IsFoundAt, IsFreeAt, IsEndOf};
 use crate::check_rows::CheckEntry;
 use row_types::{Digest, R};
 
-/// The index of the chunk's row, or else that of the first entry behind its place.
+/// The index of the chunk's row, or else that of the first entry after its place.
 pub fn place_of(entries: &[CheckEntry], table: u32, chunk: u32) -> Result<usize, usize>
     requires { IsByPlace entries.now }
     ensures found { IfOk result (IsFoundAt table chunk entries.now) }

@@ -1,5 +1,5 @@
 use super::*;
-use row_types::{Digest, DigestKind, Span};
+use row_types::{Digest, DigestKind, Edge, Span};
 use std::test::Fail;
 
 fn check_row(position: u64, count: u64, first: u8) -> CheckRow {
@@ -93,5 +93,57 @@ fn copies_are_the_same(rt: HostRuntime) -> Result<(), Fail> {
     assert!(rt; copy.same(&checks));
     assert!(rt; copy.set_master(0, 1, published(3, 7)));
     assert!(rt; !copy.same(&checks));
+    Ok(())
+}
+
+/// Each verdict is the same as its copy, and as no other.
+#[test]
+fn verdicts_are_copied(rt: HostRuntime) -> Result<(), Fail> {
+    let verdicts = [Verdict::Same, Verdict::Differ, Verdict::Pending];
+    for i in 0..3usize {
+        let copy = verdicts[i].copy(rt.alloc())?;
+        for j in 0..3usize {
+            assert!(rt; copy.same(&verdicts[j]) == (i == j), "{i} and {j}");
+        }
+    }
+    Ok(())
+}
+
+/// A row with each of its fields other than that of the first, which is row 0.
+fn row_of(number: usize) -> CheckRow {
+    let mut row = check_row(9, 3, 7);
+    match number {
+        0 => {}
+        1 => row.span.hi = Edge::Low,
+        2 => row.kind = DigestKind::Md5,
+        3 => row.this.count = 4,
+        4 => row.master = Some(published(3, 7)),
+        5 => row.master = Some(published(3, 8)),
+        _ => row.position = 8,
+    }
+    row
+}
+
+/// Rows and entries are the same as their copies, and as none with another field.
+#[test]
+fn rows_are_told_apart(rt: HostRuntime) -> Result<(), Fail> {
+    for i in 0..7usize {
+        let copy = row_of(i).copy(rt.alloc())?;
+        for j in 0..7usize {
+            assert!(rt; copy.same(&row_of(j)) == (i == j), "{i} and {j}");
+        }
+        for (table, chunk) in [(0, 1), (0, 2), (1, 1)] {
+            let row = row_of(i);
+            let entry = CheckEntry { table, chunk, row };
+            assert!(rt; entry.copy(rt.alloc())?.same(&entry));
+            let row = row_of(i);
+            let first = CheckEntry {
+                table: 0,
+                chunk: 1,
+                row,
+            };
+            assert!(rt; entry.same(&first) == (table == 0 && chunk == 1));
+        }
+    }
     Ok(())
 }

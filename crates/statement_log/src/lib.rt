@@ -1,5 +1,5 @@
-//! Logs of transactions: who wrote an entry and its statements, entries by their position, and room
-//! that is promised to the next one.
+//! Logs of transactions: who wrote an entry and its statements, entries by their position, and reserved
+//! capacity for the next one.
 #![tactic(auto)]
 
 pub mod entries;

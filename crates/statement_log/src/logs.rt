@@ -79,8 +79,8 @@ impl Log {
         self.spare
     }
 
-    /// Puts an entry at the end and answers its position, the new length. It takes the room of a spare
-    /// entry, and wants memory only where none is spare; a refusal hands the entry back.
+    /// Puts an entry at the end and answers its position, the new length. It takes the reserved capacity
+    /// of a spare entry, and memory only where none is spare; a refusal hands the entry back.
     pub fn append(&mut self, entry: Entry) -> Result<u64, (Entry, Memory)>
         ensures ok { OnOk result (self.new.entries ≡ self.old.entries ++ entry ∷ []) }
         ensures position { IfOk result (λ position. position ≡ length self.new.entries) }
@@ -117,7 +117,7 @@ impl Log {
     }
 }
 
-/// Puts an entry behind the others, where there is room for it.
+/// Puts an entry after the others, where there is reserved capacity for it.
 fn put_last(entries: &mut Vec<Entry>, entry: Entry)
     requires { vec_len entries.old < vec_capacity entries.old }
     ensures items { entries.new.items ≡ entries.old.items ++ entry ∷ [] }

@@ -2,6 +2,7 @@ use crate::{Entry, Log, Origin};
 use ptc_statement::{Statement, Statements};
 use row_types::{Edge, R, Span};
 use std::alloc::Global;
+use std::test::Fail;
 
 /// A span without keys.
 fn no_keys() -> Span {
@@ -71,79 +72,85 @@ fn log_of_origins(alloc: Global) -> R<Log> {
 
 /// Each origin is the same as its copy, and as no other.
 #[test]
-fn origins_are_told_apart(rt: HostRuntime) {
+fn origins_are_told_apart(rt: HostRuntime) -> Result<(), Fail> {
     let alloc = rt.alloc();
-    let origins = origins(alloc).expect(&rt, "memory");
+    let origins = origins(alloc)?;
     assert_eq!(rt; origins.len(), 11);
     for i in 0..origins.len() {
-        let copy = origins[i].copy(alloc).expect(&rt, "memory");
+        let copy = origins[i].copy(alloc)?;
         for j in 0..origins.len() {
             assert_eq!(rt; copy.same(&origins[j]), i == j, "at {i} and {j}");
         }
     }
+    Ok(())
 }
 
 /// Entries are told apart by their origins and by their statements.
 #[test]
-fn entries_are_told_apart(rt: HostRuntime) {
+fn entries_are_told_apart(rt: HostRuntime) -> Result<(), Fail> {
     let alloc = rt.alloc();
-    let own = entry(alloc, Origin::Local(1), 4).expect(&rt, "memory");
-    let of_session = entry(alloc, Origin::Session(1), 4).expect(&rt, "memory");
-    let of_table = entry(alloc, Origin::Local(1), 5).expect(&rt, "memory");
-    let copy = own.copy(alloc).expect(&rt, "memory");
+    let own = entry(alloc, Origin::Local(1), 4)?;
+    let of_session = entry(alloc, Origin::Session(1), 4)?;
+    let of_table = entry(alloc, Origin::Local(1), 5)?;
+    let copy = own.copy(alloc)?;
     assert!(rt; copy.same(&own) && own.same(&copy));
     assert!(rt; !copy.same(&of_session) && !copy.same(&of_table));
+    Ok(())
 }
 
 /// Positions are counted from 1 and end at the length.
 #[test]
-fn entries_stand_at_their_positions(rt: HostRuntime) {
+fn entries_stand_at_their_positions(rt: HostRuntime) -> Result<(), Fail> {
     let alloc = rt.alloc();
-    let log = log_of_origins(alloc).expect(&rt, "memory");
+    let log = log_of_origins(alloc)?;
     assert!(rt; !log.is_empty() && log.len() == 11 && log.as_slice().len() == 11);
     assert!(rt; log.get(0).is_none() && log.get(12).is_none() && log.get(u64::MAX).is_none());
     assert!(rt; is_entry(log.get(1), 0) && is_entry(log.get(2), 1) && is_entry(log.get(11), 10));
     for (table, entry) in (0..11).zip(log.as_slice()) {
         assert!(rt; is_entry(Some(entry), table));
     }
+    Ok(())
 }
 
 /// A log without entries has none at any position.
 #[test]
-fn an_empty_log_has_no_entries(rt: HostRuntime) {
+fn an_empty_log_has_no_entries(rt: HostRuntime) -> Result<(), Fail> {
     let log = Log::new(rt.alloc());
     assert!(rt; log.is_empty() && log.len() == 0 && log.spare() == 0);
     assert!(rt; log.get(0).is_none() && log.get(1).is_none() && log.as_slice().is_empty());
+    Ok(())
 }
 
-/// Room is promised once, used once, and leaves the entries as they are.
+/// Reserved capacity is promised once, used once, and leaves the entries as they are.
 #[test]
-fn an_append_uses_promised_room(rt: HostRuntime) {
+fn an_append_uses_reserved_capacity(rt: HostRuntime) -> Result<(), Fail> {
     let alloc = rt.alloc();
     let mut log = Log::new(alloc);
-    log.reserve().expect(&rt, "memory");
-    log.reserve().expect(&rt, "memory");
+    log.reserve()?;
+    log.reserve()?;
     assert!(rt; log.spare() == 1 && log.is_empty());
-    let first = append(alloc, &mut log, Origin::Checksum, 7).expect(&rt, "memory");
+    let first = append(alloc, &mut log, Origin::Checksum, 7)?;
     assert!(rt; first == 1 && log.spare() == 0);
-    let second = append(alloc, &mut log, Origin::Session(2), 8).expect(&rt, "memory");
+    let second = append(alloc, &mut log, Origin::Session(2), 8)?;
     assert!(rt; second == 2 && log.spare() == 0);
-    log.reserve().expect(&rt, "memory");
+    log.reserve()?;
     assert!(rt; log.spare() == 1 && log.len() == 2);
     assert!(rt; is_entry(log.get(1), 7) && is_entry(log.get(2), 8));
+    Ok(())
 }
 
 /// Many entries keep their positions.
 #[test]
-fn many_entries_keep_their_positions(rt: HostRuntime) {
+fn many_entries_keep_their_positions(rt: HostRuntime) -> Result<(), Fail> {
     let alloc = rt.alloc();
     let mut log = Log::new(alloc);
     for table in 0..1000 {
-        let position = append(alloc, &mut log, Origin::Session(1), table).expect(&rt, "memory");
+        let position = append(alloc, &mut log, Origin::Session(1), table)?;
         assert_eq!(rt; position, u64::from(table) + 1);
     }
     for table in 0..1000 {
         assert!(rt; is_entry(log.get(u64::from(table) + 1), table));
     }
     assert!(rt; log.len() == 1000 && log.get(1001).is_none());
+    Ok(())
 }
