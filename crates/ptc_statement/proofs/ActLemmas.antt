@@ -1,5 +1,6 @@
 -- After a statement that fits, a table has at each key what the statement makes of the row there.
 use Rattle.std.proofs.Common.{◌≡◌, ◌∙◌, ℕ, Bool, true, false, cond, Option, Some, None, List, [], ◌∷◌, refl, ap, sym}
+use Rattle.std.specs.Prelude.{is_some}
 use Rattle.std.specs.Ordering.{match_ordering, is_eq}
 use Rattle.std.specs.declared.cmp.Ordering.{Ordering}
 use Rattle.std.specs.declared.cmp.Ordering.TheVariants.{Less, Equal, Greater}
@@ -13,7 +14,7 @@ use Rattle.ptc_statement.specs.declared.statements.Statement.TheVariants.{Insert
 use Rattle.ptc_statement.specs.Reach.{reach_of}
 use Rattle.ptc_statement.specs.Effect.{effect, effect_within, changed, with_front, with_new_row, rows_after, row_at}
 use Rattle.ptc_statement.specs.Fits.{StatementFits}
-use Rattle.ptc_statement.proofs.KeyLemmas.{is_equal, just_itself, first_here, none_behind, below_all}
+use Rattle.ptc_statement.proofs.KeyLemmas.{is_equal, just_itself, first_here, none_behind}
 use Rattle.ptc_statement.proofs.KeepLemmas.{LeftKeeps, effect_keeps}
 use Rattle.ptc_statement.proofs.TableLemmas.{changed_above}
 
@@ -61,59 +62,6 @@ changed_at schema statement key (row ∷ rows) absent of table =
     changed_first schema statement key row rows (is_eq (key_cmp key (key_of schema row))) refl of table
     (changed_at schema statement key rows absent of table.2)
 
--- an INSERT leaves the other keys
-put_other_at : (schema : Schema) (key row other : List Value) (others : List (List Value)) (o : Ordering) → is_eq (key_cmp key (key_of schema row)) ≡ false
-    → row_at schema key (with_new_row schema row others) ≡ row_at schema key others
-    → row_at schema key (match_ordering o (row ∷ other ∷ others) (other ∷ others) (other ∷ with_new_row schema row others)) ≡ row_at schema key (other ∷ others)
-put_other_at schema key row other others Less apart more = ap (λ (b : Bool). cond b (Some row) (row_at schema key (other ∷ others))) apart
-put_other_at schema key row other others Equal apart more = refl
-put_other_at schema key row other others Greater apart more =
-    ap (cond (is_eq (key_cmp key (key_of schema other))) (Some other)) more
-
-put_other : (schema : Schema) (key row : List Value) (rows : List (List Value)) → is_eq (key_cmp key (key_of schema row)) ≡ false
-    → row_at schema key (with_new_row schema row rows) ≡ row_at schema key rows
-put_other schema key row [] apart = ap (λ (b : Bool). cond b (Some row) None) apart
-put_other schema key row (other ∷ others) apart =
-    put_other_at schema key row other others (key_cmp (key_of schema row) (key_of schema other)) apart (put_other schema key row others apart)
-
--- at its own key it gives its row where none is
-abbrev or_new : List Value → Option (List Value) → Option (List Value)
-or_new row None = Some row
-or_new row (Some old) = Some old
-
-put_same_at : (schema : Schema) (row other : List Value) (others : List (List Value)) (o : Ordering) → key_cmp (key_of schema row) (key_of schema other) ≡ o
-    → IsTable schema (other ∷ others)
-    → row_at schema (key_of schema row) (with_new_row schema row others) ≡ or_new row (row_at schema (key_of schema row) others)
-    → row_at schema (key_of schema row) (match_ordering o (row ∷ other ∷ others) (other ∷ others) (other ∷ with_new_row schema row others))
-    ≡ or_new row (cond (is_eq o) (Some other) (row_at schema (key_of schema row) others))
-put_same_at schema row other others Less e table more =
-    first_here schema row (other ∷ others)
-    ∙ ap (or_new row) (sym (none_behind schema (key_of schema row) row others refl (below_all schema row other others e table.1)))
-put_same_at schema row other others Equal e table more =
-    ap (λ (o : Ordering). cond (is_eq o) (Some other) (row_at schema (key_of schema row) others)) e
-put_same_at schema row other others Greater e table more =
-    ap (λ (o : Ordering). cond (is_eq o) (Some other) (row_at schema (key_of schema row) (with_new_row schema row others))) e ∙ more
-
-put_same : (schema : Schema) (row : List Value) (rows : List (List Value)) → IsTable schema rows
-    → row_at schema (key_of schema row) (with_new_row schema row rows) ≡ or_new row (row_at schema (key_of schema row) rows)
-put_same schema row [] table = first_here schema row []
-put_same schema row (other ∷ others) table =
-    put_same_at schema row other others (key_cmp (key_of schema row) (key_of schema other)) refl table (put_same schema row others table.2)
-
-is_new : (schema : Schema) (table : ℕ) (row : List Value) (old : Option (List Value)) → or_new row old ≡ effect_within schema (Insert table row) old
-is_new schema table row None = refl
-is_new schema table row (Some old) = refl
-
-insert_at : (schema : Schema) (table : ℕ) (key row : List Value) (rows : List (List Value)) (b : Bool) → is_eq (key_cmp key (key_of schema row)) ≡ b → IsTable schema rows
-    → row_at schema key (with_new_row schema row rows) ≡ cond b (effect_within schema (Insert table row) (row_at schema key rows)) (row_at schema key rows)
-insert_at schema table key row rows true same is =
-    let here : key ≡ key_of schema row = keys_exact key (key_of schema row) (is_equal (key_cmp key (key_of schema row)) same) in
-    ap (λ (k : List Value). row_at schema k (with_new_row schema row rows)) here
-    ∙ put_same schema row rows is
-    ∙ is_new schema table row (row_at schema (key_of schema row) rows)
-    ∙ ap (λ (k : List Value). effect_within schema (Insert table row) (row_at schema k rows)) (sym here)
-insert_at schema table key row rows false apart is = put_other schema key row rows apart
-
 apart_from : (schema : Schema) (key row other : List Value) → key_cmp (key_of schema row) (key_of schema other) ≡ Equal → is_eq (key_cmp key (key_of schema row)) ≡ false
     → is_eq (key_cmp key (key_of schema other)) ≡ false
 apart_from schema key row other tie apart =
@@ -158,11 +106,32 @@ replace_at schema key row rows true same =
     ap (λ (k : List Value). row_at schema k (with_row schema row rows)) here ∙ replace_same schema row rows
 replace_at schema key row rows false apart = replace_other schema key row rows apart
 
+-- an INSERT puts its row at its own key where none is there
+insert_here : (schema : Schema) (table : ℕ) (row : List Value) (rows : List (List Value)) (found : Option (List Value)) → row_at schema (key_of schema row) rows ≡ found
+    → row_at schema (key_of schema row) (cond (is_some found) rows (with_row schema row rows)) ≡ effect_within schema (Insert table row) found
+insert_here schema table row rows None is = replace_same schema row rows
+insert_here schema table row rows (Some old) is = is
+
+insert_elsewhere : (schema : Schema) (key row : List Value) (rows : List (List Value)) (found : Bool) → is_eq (key_cmp key (key_of schema row)) ≡ false
+    → row_at schema key (cond found rows (with_row schema row rows)) ≡ row_at schema key rows
+insert_elsewhere schema key row rows true apart = refl
+insert_elsewhere schema key row rows false apart = replace_other schema key row rows apart
+
+insert_at : (schema : Schema) (table : ℕ) (key row : List Value) (rows : List (List Value)) (b : Bool) → is_eq (key_cmp key (key_of schema row)) ≡ b
+    → row_at schema key (with_new_row schema row rows) ≡ cond b (effect_within schema (Insert table row) (row_at schema key rows)) (row_at schema key rows)
+insert_at schema table key row rows true same =
+    let here : key ≡ key_of schema row = keys_exact key (key_of schema row) (is_equal (key_cmp key (key_of schema row)) same) in
+    ap (λ (k : List Value). row_at schema k (with_new_row schema row rows)) here
+    ∙ insert_here schema table row rows (row_at schema (key_of schema row) rows) refl
+    ∙ ap (λ (k : List Value). effect_within schema (Insert table row) (row_at schema k rows)) (sym here)
+insert_at schema table key row rows false apart =
+    insert_elsewhere schema key row rows (is_some (row_at schema (key_of schema row) rows)) apart
+
 -- at each key the table has what the statement makes of the row there
 pub acts_at : (schema : Schema) (statement : Statement) (rows : List (List Value)) (key : List Value) → StatementFits schema statement → IsTable schema rows
     → row_at schema key (rows_after schema statement rows) ≡ effect schema statement key (row_at schema key rows)
 acts_at schema (Insert table row) rows key of is =
-    insert_at schema table key row rows (is_eq (key_cmp key (key_of schema row))) refl is
+    insert_at schema table key row rows (is_eq (key_cmp key (key_of schema row))) refl
     ∙ ap (λ (b : Bool). cond b (effect_within schema (Insert table row) (row_at schema key rows)) (row_at schema key rows)) (sym (just_itself (key_of schema row) key))
 acts_at schema (Replace table row) rows key of is =
     replace_at schema key row rows (is_eq (key_cmp key (key_of schema row))) refl

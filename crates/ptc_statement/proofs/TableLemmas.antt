@@ -1,5 +1,6 @@
 -- A statement that fits leaves a table of a table.
-use Rattle.std.proofs.Common.{◌≡◌, ◌∙◌, Option, Some, None, List, [], ◌∷◌, refl, ap}
+use Rattle.std.proofs.Common.{◌≡◌, ◌∙◌, Bool, true, false, cond, Option, Some, None, List, [], ◌∷◌, refl, ap}
+use Rattle.std.specs.Prelude.{is_some}
 use Rattle.std.specs.Ordering.{match_ordering}
 use Rattle.std.specs.declared.cmp.Ordering.{Ordering}
 use Rattle.std.specs.declared.cmp.Ordering.TheVariants.{Less, Equal, Greater}
@@ -10,7 +11,7 @@ use Rattle.row_types.specs.Fit.{key_of, RowFits, IsBelowAll, IsTable, with_row}
 use Rattle.row_types.proofs.OrderLemmas.{key_turns_back, keys_exact}
 use Rattle.ptc_statement.specs.declared.statements.Statement.{Statement}
 use Rattle.ptc_statement.specs.declared.statements.Statement.TheVariants.{Insert, Replace, Delete, Update, LockRead, Check, SetMaster, ClearChecks}
-use Rattle.ptc_statement.specs.Effect.{effect, changed, with_front, with_new_row, rows_after}
+use Rattle.ptc_statement.specs.Effect.{effect, changed, with_front, row_at, rows_after}
 use Rattle.ptc_statement.specs.Fits.{StatementFits}
 use Rattle.ptc_statement.proofs.KeyLemmas.{below_all, same_above}
 use Rattle.ptc_statement.proofs.KeepLemmas.{LeftKeeps, effect_keeps}
@@ -43,32 +44,6 @@ changed_table schema statement (row ∷ rows) of table =
     (changed_above schema statement row rows of table.2 table.1)
     (changed_table schema statement rows of table.2)
 
-put_above_at : (schema : Schema) (least row other : List Value) (others : List (List Value)) (o : Ordering) → key_cmp (key_of schema least) (key_of schema row) ≡ Less
-    → IsBelowAll schema least (other ∷ others) → IsBelowAll schema least (with_new_row schema row others)
-    → IsBelowAll schema least (match_ordering o (row ∷ other ∷ others) (other ∷ others) (other ∷ with_new_row schema row others))
-put_above_at schema least row other others Less below all more = (below, all)
-put_above_at schema least row other others Equal below all more = all
-put_above_at schema least row other others Greater below all more = (all.0, more)
-
-put_above : (schema : Schema) (least row : List Value) (rows : List (List Value)) → key_cmp (key_of schema least) (key_of schema row) ≡ Less → IsBelowAll schema least rows
-    → IsBelowAll schema least (with_new_row schema row rows)
-put_above schema least row [] below all = (below, tt)
-put_above schema least row (other ∷ others) below all =
-    put_above_at schema least row other others (key_cmp (key_of schema row) (key_of schema other)) below all (put_above schema least row others below all.1)
-
-put_table_at : (schema : Schema) (row other : List Value) (others : List (List Value)) (o : Ordering) → key_cmp (key_of schema row) (key_of schema other) ≡ o
-    → RowFits schema row → IsTable schema (other ∷ others) → IsTable schema (with_new_row schema row others)
-    → IsTable schema (match_ordering o (row ∷ other ∷ others) (other ∷ others) (other ∷ with_new_row schema row others))
-put_table_at schema row other others Less e fits table more = (fits, (e, below_all schema row other others e table.1), table)
-put_table_at schema row other others Equal e fits table more = table
-put_table_at schema row other others Greater e fits table more =
-    (table.0, put_above schema other row others (key_turns_back (key_of schema row) (key_of schema other) e) table.1, more)
-
-put_table : (schema : Schema) (row : List Value) (rows : List (List Value)) → RowFits schema row → IsTable schema rows → IsTable schema (with_new_row schema row rows)
-put_table schema row [] fits table = (fits, tt, tt)
-put_table schema row (other ∷ others) fits table =
-    put_table_at schema row other others (key_cmp (key_of schema row) (key_of schema other)) refl fits table (put_table schema row others fits table.2)
-
 replace_above_at : (schema : Schema) (least row other : List Value) (others : List (List Value)) (o : Ordering) → key_cmp (key_of schema least) (key_of schema row) ≡ Less
     → IsBelowAll schema least (other ∷ others) → IsBelowAll schema least (with_row schema row others)
     → IsBelowAll schema least (match_ordering o (row ∷ other ∷ others) (row ∷ others) (other ∷ with_row schema row others))
@@ -97,9 +72,15 @@ replace_table schema row [] fits table = (fits, tt, tt)
 replace_table schema row (other ∷ others) fits table =
     replace_table_at schema row other others (key_cmp (key_of schema row) (key_of schema other)) refl fits table (replace_table schema row others fits table.2)
 
+new_table : (schema : Schema) (found : Bool) (row : List Value) (rows : List (List Value)) → IsTable schema rows → IsTable schema (with_row schema row rows)
+    → IsTable schema (cond found rows (with_row schema row rows))
+new_table schema true row rows old new = old
+new_table schema false row rows old new = new
+
 -- a statement that fits leaves a table
 pub rows_after_table : (schema : Schema) (statement : Statement) (rows : List (List Value)) → StatementFits schema statement → IsTable schema rows → IsTable schema (rows_after schema statement rows)
-rows_after_table schema (Insert table row) rows of is = put_table schema row rows of is
+rows_after_table schema (Insert table row) rows of is =
+    new_table schema (is_some (row_at schema (key_of schema row) rows)) row rows is (replace_table schema row rows of is)
 rows_after_table schema (Replace table row) rows of is = replace_table schema row rows of is
 rows_after_table schema (Delete table where_true) rows of is = changed_table schema (Delete table where_true) rows of is
 rows_after_table schema (Update table sets where_true) rows of is = changed_table schema (Update table sets where_true) rows of is

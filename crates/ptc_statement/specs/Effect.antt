@@ -1,8 +1,7 @@
 -- The effect of a statement at a key, from the row there alone, and on the rows of its table.
-use Rattle.std.specs.Prelude.{ℕ, pos, Bool, true, false, cond, List, [], ◌∷◌, Option, None, Some, take, slice_set}
+use Rattle.std.specs.Prelude.{ℕ, pos, Bool, true, false, cond, is_some, List, [], ◌∷◌, Option, None, Some, take, slice_set}
 use Rattle.std.specs.List.{slice_get}
 use Rattle.std.specs.Option.{option_map_or}
-use Rattle.std.specs.Ordering.{is_eq, match_ordering}
 use Rattle.row_types.specs.declared.values.Value.{Value}
 use Rattle.row_types.specs.declared.values.Value.TheVariants.{Null, Int, Text}
 use Rattle.row_types.specs.declared.lock_modes.LockMode.{LockMode}
@@ -11,8 +10,9 @@ use Rattle.row_types.specs.declared.table_schema.ColumnKind.{ColumnKind}
 use Rattle.row_types.specs.declared.table_schema.ColumnKind.TheVariants.{Int as IntColumn, BigInt, Text as TextColumn}
 use Rattle.row_types.specs.declared.table_schema.Column.{Column}
 use Rattle.row_types.specs.declared.table_schema.Schema.{Schema}
-use Rattle.row_types.specs.Order.{key_cmp, has}
+use Rattle.row_types.specs.Order.{has}
 use Rattle.row_types.specs.Faults.{clipped}
+use Rattle.row_types.specs.KeyRows.{Row, Rows, row_at as row_with_key}
 use Rattle.row_types.specs.Fit.{key_of, with_row}
 use Rattle.ptc_statement.specs.declared.assignments.Assignment.{Assignment}
 use Rattle.ptc_statement.specs.declared.statements.Statement.{Statement}
@@ -71,19 +71,19 @@ stored column Null = cond column.nullable Null (empty_of column.kind)
 stored column (Int n) = Int (clipped column.kind n)
 stored column (Text text) = Text (cut column.kind text)
 
-abbrev pub assigned : Schema → Assignment → List Value → List Value
+abbrev pub assigned : Schema → Assignment → Row → Row
 assigned schema assignment row =
     option_map_or (λ (column : Column). slice_set row assignment.column (stored column (value_of row assignment.expr)))
     (slice_get schema.columns assignment.column) row
 
 -- assignments go from left to right: a later one sees the new value of an earlier column
-abbrev pub after_sets : Schema → List Assignment → List Value → List Value
+abbrev pub after_sets : Schema → List Assignment → Row → Row
 after_sets schema [] row = row
 after_sets schema (assignment ∷ assignments) row = after_sets schema assignments (assigned schema assignment row)
 
 -- INSERT gives its row at an absent key, REPLACE at every key; DELETE takes a row, UPDATE changes it
 -- where the condition is true; a locking read and the tool's statements leave every row
-abbrev pub effect_within : Schema → Statement → Option (List Value) → Option (List Value)
+abbrev pub effect_within : Schema → Statement → Option Row → Option Row
 effect_within schema (Insert table row) None = Some row
 effect_within schema (Insert table row) (Some old) = Some old
 effect_within schema (Replace table row) old = Some row
@@ -97,29 +97,28 @@ effect_within schema (SetMaster table chunk kind master) old = old
 effect_within schema (ClearChecks table) old = old
 
 -- the row, or none, at a key after a statement, from the row there alone; outside its reach the old one
-abbrev pub effect : Schema → Statement → List Value → Option (List Value) → Option (List Value)
+abbrev pub effect : Schema → Statement → List Value → Option Row → Option Row
 effect schema statement key old = cond (has (reach_of schema statement) key) (effect_within schema statement old) old
 
-abbrev pub with_front : Option (List Value) → List (List Value) → List (List Value)
+abbrev pub with_front : Option Row → Rows → Rows
 with_front None rows = rows
 with_front (Some row) rows = row ∷ rows
 
 -- each row changed by the effect at its key
-abbrev pub changed : Schema → Statement → List (List Value) → List (List Value)
+abbrev pub changed : Schema → Statement → Rows → Rows
 changed schema statement [] = []
 changed schema statement (row ∷ rows) = with_front (effect schema statement (key_of schema row) (Some row)) (changed schema statement rows)
 
+-- the row at a key, if there is one
+abbrev pub row_at : Schema → List Value → Rows → Option Row
+row_at schema = row_with_key schema.key_len
+
 -- the rows with this one at its place by key, unless its key is there
-abbrev pub with_new_row : Schema → List Value → List (List Value) → List (List Value)
-with_new_row schema row [] = row ∷ []
-with_new_row schema row (other ∷ others) =
-    match_ordering (key_cmp (key_of schema row) (key_of schema other))
-    (row ∷ other ∷ others)
-    (other ∷ others)
-    (other ∷ with_new_row schema row others)
+abbrev pub with_new_row : Schema → Row → Rows → Rows
+with_new_row schema row rows = cond (is_some (row_at schema (key_of schema row) rows)) rows (with_row schema row rows)
 
 -- the rows of its table after the statement
-abbrev pub rows_after : Schema → Statement → List (List Value) → List (List Value)
+abbrev pub rows_after : Schema → Statement → Rows → Rows
 rows_after schema (Insert table row) rows = with_new_row schema row rows
 rows_after schema (Replace table row) rows = with_row schema row rows
 rows_after schema (Delete table where_true) rows = changed schema (Delete table where_true) rows
@@ -128,8 +127,3 @@ rows_after schema (LockRead table mode span where_true) rows = rows
 rows_after schema (Check table chunk span kind) rows = rows
 rows_after schema (SetMaster table chunk kind master) rows = rows
 rows_after schema (ClearChecks table) rows = rows
-
--- the row at a key, if there is one
-abbrev pub row_at : Schema → List Value → List (List Value) → Option (List Value)
-row_at schema key [] = None
-row_at schema key (row ∷ rows) = cond (is_eq (key_cmp key (key_of schema row))) (Some row) (row_at schema key rows)

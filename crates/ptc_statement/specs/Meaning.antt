@@ -1,5 +1,5 @@
 -- The value of an expression and the truth of a condition over a row.
-use Rattle.std.specs.Prelude.{ℤ, ◌+ℤ◌, ◌-ℤ◌, ◌*ℤ◌, neg_ℤ, Bool, true, false, not, List, Option, None, Some, slice_index_or}
+use Rattle.std.specs.Prelude.{ℤ, ◌+ℤ◌, ◌-ℤ◌, ◌*ℤ◌, neg_ℤ, Bool, true, false, not, Option, None, Some, slice_index_or}
 use Rattle.std.specs.Int.{w64, saturate_signed}
 use Rattle.std.specs.Ordering.{is_eq, is_ne, is_lt, is_le, is_gt, is_ge}
 use Rattle.std.specs.declared.cmp.Ordering.{Ordering}
@@ -7,6 +7,7 @@ use Rattle.row_types.specs.declared.values.Value.{Value}
 use Rattle.row_types.specs.declared.values.Value.TheVariants.{Null, Int, Text}
 use Rattle.row_types.specs.declared.table_schema.Schema.{Schema}
 use Rattle.row_types.specs.Order.{value_cmp, key_cmp}
+use Rattle.row_types.specs.KeyRows.{Row}
 use Rattle.row_types.specs.Fit.{key_of}
 use Rattle.ptc_statement.specs.declared.expressions.Op.{Op}
 use Rattle.ptc_statement.specs.declared.expressions.Op.TheVariants.{Eq, Ne, Lt, Le, Gt, Ge}
@@ -33,7 +34,7 @@ negated (Int n) = number (neg_ℤ n)
 negated (Text t) = Null
 
 -- what one part of an expression gives, from the values of its operands
-abbrev pub value_at : List Value → Expr-F Value → Value
+abbrev pub value_at : Row → Expr-F Value → Value
 value_at row (Lit value) = value
 value_at row (Cell column) = slice_index_or row column Null
 value_at row (Neg operand) = negated operand
@@ -42,7 +43,7 @@ value_at row (Sub left right) = calculated ◌-ℤ◌ left right
 value_at row (Mul left right) = calculated ◌*ℤ◌ left right
 
 -- the value of an expression over a row
-abbrev pub value_of : List Value → Expr → Value
+abbrev pub value_of : Row → Expr → Value
 value_of row expr = fold-Expr Value (value_at row) expr
 
 -- whether two sides in this order meet the sign
@@ -94,7 +95,7 @@ null_test true value = not (is_null value)
 null_test false value = is_null value
 
 -- the truth of one part of a condition, from the truths of its operands
-abbrev pub truth_at : Schema → List Value → Cond-F (Option Bool) → Option Bool
+abbrev pub truth_at : Schema → Row → Cond-F (Option Bool) → Option Bool
 truth_at schema row (Compare op left right) = compared op (value_of row left) (value_of row right)
 truth_at schema row (KeyCompare op key) = Some (meets op (key_cmp (key_of schema row) key))
 truth_at schema row (IsNull expr negated) = Some (null_test negated (value_of row expr))
@@ -103,7 +104,7 @@ truth_at schema row (And left right) = both left right
 truth_at schema row (Or left right) = either left right
 
 -- the truth of a condition over a row, none where it is unknown
-abbrev pub truth_of : Schema → List Value → Cond → Option Bool
+abbrev pub truth_of : Schema → Row → Cond → Option Bool
 truth_of schema row cond = fold-Cond (Option Bool) (truth_at schema row) cond
 
 abbrev pub is_true : Option Bool → Bool
@@ -111,6 +112,6 @@ is_true None = false
 is_true (Some truth) = truth
 
 -- whether a statement takes the row: its condition is true there, or there is none
-abbrev pub is_taken : Schema → Option Cond → List Value → Bool
+abbrev pub is_taken : Schema → Option Cond → Row → Bool
 is_taken schema None row = true
 is_taken schema (Some condition) row = is_true (truth_of schema row condition)

@@ -1,8 +1,9 @@
 -- Arithmetic on numbers, without the values that they stand for.
-use Rattle.std.specs.Prelude.{ℤ, ◌≡◌, neg_ℤ, List, Option, None, Some}
+use Rattle.std.specs.Prelude.{ℤ, ◌≡◌, neg_ℤ, Option, None, Some}
 use Rattle.std.specs.Int.{w64, saturate_signed}
 use Rattle.row_types.specs.declared.values.Value.{Value}
 use Rattle.row_types.specs.declared.values.Value.TheVariants.{Null, Int, Text}
+use Rattle.row_types.specs.KeyRows.{Row}
 use Rattle.ptc_statement.specs.declared.expressions.Expr.{Expr}
 use Rattle.ptc_statement.specs.Meaning.{value_of}
 
@@ -18,11 +19,11 @@ number_value None = Null
 number_value (Some n) = Int n
 
 -- the value of an expression is a number or NULL, as that of all arithmetic is
-abbrev pub IsCalculated : List Value → Expr → Type 0
+abbrev pub IsCalculated : Row → Expr → Type 0
 IsCalculated row expr = value_of row expr ≡ number_value (number_in (value_of row expr))
 
 -- a value that stands ready for an expression is its value; where none does, the expression is calculated
-abbrev pub IsHeld : List Value → Expr → Option Value → Type 0
+abbrev pub IsHeld : Row → Expr → Option Value → Type 0
 IsHeld row expr None = IsCalculated row expr
 IsHeld row expr (Some value) = value ≡ value_of row expr
 

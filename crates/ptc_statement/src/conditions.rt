@@ -86,7 +86,7 @@ impl Cond {
 }
 
 /// The copy of a condition that may be left out.
-pub fn copy_cond(alloc: Global, cond: &Option<Cond>) -> R<Option<Cond>>
+pub(crate) fn copy_cond(alloc: Global, cond: &Option<Cond>) -> R<Option<Cond>>
     ensures { IfOk result (λ copy. copy ≡ cond.now) }
 {
     match cond {
@@ -96,7 +96,7 @@ pub fn copy_cond(alloc: Global, cond: &Option<Cond>) -> R<Option<Cond>>
 }
 
 /// Whether two conditions that may be left out are equal.
-pub fn same_cond(ours: &Option<Cond>, theirs: &Option<Cond>) -> bool
+pub(crate) fn same_cond(ours: &Option<Cond>, theirs: &Option<Cond>) -> bool
     ensures { IsTrue result ↔ (ours.now ≡ theirs.now) }
 {
     match (ours, theirs) {

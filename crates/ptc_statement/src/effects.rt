@@ -3,7 +3,7 @@ ghost use Rattle.std.specs.Option.{option_copied};
 ghost use Rattle.row_types.specs.Faults.{clipped};
 ghost use Rattle.ptc_statement.specs.Effect.{empty_of, cut, stored, assigned, after_sets, effect, effect_within};
 
-use crate::assignments::{Assignment, Sets};
+use crate::assignments::{Assignment, Assignments};
 use crate::evaluation::takes;
 use crate::reaches::reach;
 use crate::statements::Statement;
@@ -73,7 +73,7 @@ fn row_left(alloc: Global, statement: &Statement, schema: &Schema, row: &Row) ->
 
 /// The row with an UPDATE's assignments done, from the first to the last.
 /// Source: MySQL Reference Manual, "UPDATE Statement".
-pub fn updated(alloc: Global, schema: &Schema, sets: &Sets, row: &Row) -> R<Row>
+pub fn updated(alloc: Global, schema: &Schema, sets: &Assignments, row: &Row) -> R<Row>
     ensures { IfOk result (λ new. new ≡ after_sets schema.now sets.now row.now) }
 {
     let mut new = row.copy(alloc)?;

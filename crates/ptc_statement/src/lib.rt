@@ -1,17 +1,17 @@
 //! Statements on tables, what they leave of a table's rows, and the scripts of sessions.
 #![tactic(auto)]
 
-pub mod assignments;
-pub mod conditions;
-pub mod effect_laws;
-pub mod effects;
-pub mod evaluation;
-pub mod expressions;
-pub mod reaches;
-pub mod scripts;
-pub mod statements;
+mod assignments;
+mod conditions;
+mod effect_laws;
+mod effects;
+mod evaluation;
+mod expressions;
+mod reaches;
+mod scripts;
+mod statements;
 
-pub use assignments::{Assignment, Sets};
+pub use assignments::{Assignment, Assignments, Sets};
 pub use conditions::Cond;
 pub use effect_laws::{
     no_taken_row_is_out_of_reach, statements_act_key_by_key, statements_leave_what_is_out_of_reach,

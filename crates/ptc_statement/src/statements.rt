@@ -1,12 +1,11 @@
-ghost use Rattle.std.specs.Prelude.{◌≡◌, ◌<◌, ◌^◌, ◌↔◌, List, [], ◌∷◌, ◌++◌, ℕ, length, IsTrue, IfOk, OnOk, OnErr};
+ghost use Rattle.std.specs.Prelude.{◌≡◌, ◌↔◌, IsTrue, IfOk};
 ghost use Rattle.ptc_statement.specs.Effect.{table_of, mode_of};
 ghost use Rattle.ptc_statement.specs.Effect.{is_logged as is_logged_statement};
 
-use crate::assignments::Sets;
+use crate::assignments::Assignments;
 use crate::conditions::{Cond, copy_cond, same_cond};
-use row_types::{Digest, DigestKind, LockMode, R, Row, Span};
+use row_types::{Digest, DigestKind, Items, LockMode, Plain, R, Row, Span};
 use std::alloc::Global;
-use std::marker::Model;
 
 /// A statement on the table of a number, counted from 0. Chunks are numbered from 1.
 ///
@@ -33,7 +32,7 @@ pub enum Statement {
     /// Changes the rows where the condition is true, or all.
     Update {
         table: u32,
-        sets: Sets,
+        sets: Assignments,
         cond: Option<Cond>,
     },
     /// Reads the rows of the span where the condition is true, or all, and locks what it meets.
@@ -62,6 +61,9 @@ pub enum Statement {
         table: u32,
     },
 }
+
+/// Statements, in the order in which they act.
+pub type Statements = Items<Statement>;
 
 impl Statement {
     /// The number of the table that the statement is on.
@@ -204,7 +206,7 @@ impl Statement {
         }
     }
 
-    fn is_update(&self, table: u32, sets: &Sets, cond: &Option<Cond>) -> bool
+    fn is_update(&self, table: u32, sets: &Assignments, cond: &Option<Cond>) -> bool
         ensures { IsTrue result ↔ (self.now ≡ Statement.Update table sets.now cond.now) }
     {
         match self {
@@ -284,7 +286,7 @@ impl Statement {
     }
 }
 
-fn copy_update(alloc: Global, table: u32, sets: &Sets, cond: &Option<Cond>) -> R<Statement>
+fn copy_update(alloc: Global, table: u32, sets: &Assignments, cond: &Option<Cond>) -> R<Statement>
     ensures { IfOk result (λ copy. copy ≡ Statement.Update table sets.now cond.now) }
 {
     Ok(Statement::Update {
@@ -333,86 +335,12 @@ fn copy_set_master(table: u32, chunk: u32, kind: DigestKind, master: &Digest) ->
     }
 }
 
-/// Statements, in the order in which they act.
-#[derive(Debug, Drop)]
-pub struct Statements {
-    pub items: Vec<Statement>,
-}
-
-impl Model for Statements {
-    ghost use Rattle.std.specs.Prelude.{List, ℕ};
-    ghost use Rattle.ptc_statement.specs.declared.statements.Statement.{Statement};
-    ghost use Rattle.std.specs.Coded.{codes};
-    ghost use Rattle.ptc_statement.specs.contracts.expressions.Expr as expr;
-    ghost use Rattle.ptc_statement.specs.contracts.conditions.Cond as condition;
-
-    ghost Value = { List Statement };
-
-    ghost coded = { Prim.hlevel (codes, expr.the_row.coded, condition.the_row.coded) };
-
-    ghost view = { λ list. list.items.items };
-}
-
-impl Statements {
-    /// An empty list.
-    pub fn new(alloc: Global) -> Statements
-        ensures { result ≡ [] }
-    {
-        Statements {
-            items: Vec::new(alloc),
-        }
+impl Plain for Statement {
+    fn copy(&self, alloc: Global) -> R<Statement> {
+        Statement::copy(self, alloc)
     }
 
-    pub fn as_slice(&self) -> &[Statement]
-        ensures { result.now ≡ self.now }
-    {
-        self.items.as_slice()
-    }
-
-    pub fn len(&self) -> usize
-        ensures value { result ≡ length self.now }
-        ensures bound { result < 2 ^ 63 }
-    {
-        self.items.len()
-    }
-
-    pub fn is_empty(&self) -> bool
-        ensures { IsTrue result ↔ (self.now ≡ []) }
-    {
-        self.items.is_empty()
-    }
-
-    /// Puts an item at the end; a refusal leaves the list as it was.
-    pub fn push(&mut self, item: Statement) -> R<()>
-        ensures ok { OnOk result (self.new ≡ self.old ++ item ∷ []) }
-        ensures err { OnErr result (self.new ≡ self.old) }
-    {
-        self.items.push(item)?;
-        Ok(())
-    }
-
-    pub fn copy(&self, alloc: Global) -> R<Statements>
-        ensures { IfOk result (λ copy. copy ≡ self.now) }
-    {
-        let mut items = Vec::new(alloc);
-        for item in self.items.as_slice() {
-            items.push(item.copy(alloc)?)?;
-        }
-        Ok(Statements { items })
-    }
-
-    pub fn same(&self, other: &Statements) -> bool
-        ensures { IsTrue result ↔ (self.now ≡ other.now) }
-    {
-        let (ours, theirs) = (self.items.as_slice(), other.items.as_slice());
-        if ours.len() != theirs.len() {
-            return false;
-        }
-        for i in 0..ours.len() {
-            if !ours[i].same(&theirs[i]) {
-                return false;
-            }
-        }
-        true
+    fn same(&self, other: &Statement) -> bool {
+        Statement::same(self, other)
     }
 }

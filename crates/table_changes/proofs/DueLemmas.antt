@@ -10,7 +10,6 @@ use Rattle.ptc_statement.specs.declared.statements.Statement.{Statement}
 use Rattle.ptc_statement.specs.declared.statements.Statement.TheVariants.{Insert, Replace}
 use Rattle.ptc_statement.specs.Reach.{reach_of}
 use Rattle.ptc_statement.specs.Effect.{effect, effect_within, rows_after}
-use Rattle.ptc_statement.specs.Effect.{row_at as row_of}
 use Rattle.ptc_statement.specs.Fits.{StatementFits}
 use Rattle.ptc_statement.proofs.ActLemmas.{acts_at}
 use Rattle.ptc_statement.proofs.TableLemmas.{rows_after_table}
@@ -18,7 +17,7 @@ use Rattle.ptc_statement.proofs.KeyLemmas.{just_itself}
 use Rattle.ordered_table.specs.KeyRows.{AreOrdered, is_at, row_at, rows_in, put_row}
 use Rattle.ordered_table.proofs.LawLemmas.{same_key, put_at}
 use Rattle.ordered_table.proofs.OrderedLemmas.{filter_ordered}
-use Rattle.ordered_table.proofs.SchemaLemmas.{fitting_key, table_ordered, with_is_put}
+use Rattle.ordered_table.proofs.SchemaLemmas.{fitting_key, table_ordered}
 use Rattle.ordered_table.proofs.SameLemmas.{same_rows}
 use Rattle.table_changes.specs.declared.row_changes.RowChange.{RowChange}
 use Rattle.table_changes.specs.declared.row_changes.RowChange.TheVariants.{Put}
@@ -27,11 +26,6 @@ use Rattle.table_changes.specs.RowChanges.{done, room_of, room_for, ChangeHasKey
 use Rattle.table_changes.specs.Plans.{ChangeFits, IsSound, IsDue}
 use Rattle.table_changes.proofs.DoneLemmas.{done_ordered}
 use Rattle.table_changes.proofs.WithinLemmas.{reached_at, rows_met, within_room, within_keys}
-
--- the row at a schema's key is that at a key of its length
-pub same_row : (schema : Schema) (key : List Value) (rows : List (List Value)) → row_of schema key rows ≡ row_at schema.key_len key rows
-same_row schema key [] = refl
-same_row schema key (row ∷ rows) = ap (cond (is_at schema.key_len key row) (Some row)) (same_row schema key rows)
 
 -- changes that leave at each key what the statement makes of the row there give the rows after it
 pub done_is : (schema : Schema) (statement : Statement) (changes : List RowChange) (rows : List (List Value)) → IsSchema schema → StatementFits schema statement → IsTable schema rows
@@ -42,10 +36,7 @@ done_is schema statement changes rows is of table keys at =
     same_rows schema.key_len (done schema.key_len changes rows) (rows_after schema statement rows)
     (done_ordered schema.key_len changes rows keys (table_ordered schema rows is table))
     (table_ordered schema (rows_after schema statement rows) is (rows_after_table schema statement rows of table))
-    (λ key. at key
-    ∙ ap (effect schema statement key) (sym (same_row schema key rows))
-    ∙ sym (acts_at schema statement rows key of table)
-    ∙ same_row schema key (rows_after schema statement rows))
+    (λ key. at key ∙ sym (acts_at schema statement rows key of table))
 
 -- what is due by the schema's key is due by a key of its length
 pub due_by : (key_len : ℕ) (schema : Schema) (statement : Statement) (rows : List (List Value)) (change : TableChange) → key_len ≡ schema.key_len
@@ -164,7 +155,7 @@ pub replacement_due : (key_len : ℕ) (schema : Schema) (key row : List Value) (
 replacement_due key_len schema key row rows found sound fits is at number =
     let there : row_at schema.key_len (key_of schema row) rows ≡ found = looked_up key_len schema key row rows found sound.same_key is at in
     due_by key_len schema (Replace number row) rows (record { rows = Put row ∷ []; room = room_found found }) sound.same_key (record {
-      rows = sym (with_is_put schema row rows);
+      rows = refl;
       fits = put_fits schema row rows found sound.is_schema fits there;
       room = at_most_one found;
     })

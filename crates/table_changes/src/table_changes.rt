@@ -3,14 +3,14 @@ ghost use Rattle.row_types.specs.Fit.{IsSchema, IsTable, RowFits};
 ghost use Rattle.ptc_statement.specs.Effect.{after_sets, effect_within};
 ghost use Rattle.ptc_statement.specs.Fits.{StatementFits};
 ghost use Rattle.ptc_statement.specs.declared.statements.Statement.TheVariants.{Insert, Replace};
-ghost use Rattle.ordered_table.specs.KeyRows.{rows_in};
+ghost use Rattle.row_types.specs.KeyRows.{rows_in};
 ghost use Rattle.table_changes.specs.declared.row_changes.RowChange.TheVariants.{Put};
 ghost use Rattle.table_changes.specs.RowChanges.{ChangeHasKey, done, room_of, row_changed, is_same, changes_to, changes_within};
 ghost use Rattle.table_changes.specs.Plans.{ChangeFits, IsDue, IsSound};
 
 use crate::row_changes::{RowChange, RowChanges};
 use ordered_table::Table;
-use ptc_statement::{Sets, Statement, reach, takes, updated};
+use ptc_statement::{Assignments, Statement, reach, takes, updated};
 use row_types::keys::compare_values;
 use row_types::{Key, R, Row, Schema, Span};
 use std::alloc::Global;
@@ -165,7 +165,7 @@ fn push_gone(alloc: Global, schema: &Schema, row: &Row, changes: &mut RowChanges
 fn push_updated(
     alloc: Global,
     schema: &Schema,
-    sets: &Sets,
+    sets: &Assignments,
     row: &Row,
     changes: &mut RowChanges,
 ) -> R<()>
