@@ -12,7 +12,7 @@ use Rattle.cluster_core.specs.Report.{differs, verdicts_of, status_of}
 use Rattle.cluster_laws.proofs.HeadlineLemmas.{each_run}
 use Rattle.ptc_run.specs.declared.words.WordFault.{WordFault}
 use Rattle.ptc_run.specs.FirstForm.{IsWorkloadText}
-use Rattle.ptc_run.specs.Due.{FileDue, DueAfter, Due, Reports, AreTaken, IsWritten, IsReported}
+use Rattle.ptc_run.specs.Due.{FileDue, DueAfter, Due, Reports, AreTaken, IsWritten, IsReported, WasReadOut}
 use Rattle.ptc_run.proofs.FormLemmas.{early_excludes}
 
 -- the report of a file's workload is due
@@ -96,3 +96,12 @@ due_reported words left bytes workload code text taken told due within file writ
 pub not_over : (n : ℕ) → (16777216 < n → ⊥) → n ≤ 16777216
 not_over n never = elim (nat_lt 16777216 n) as (λ b. nat_lt 16777216 n ≡ b → n ≤ 16777216)
     [ true ↦ λ is. absurd (never (ltb-true 16777216 n is)) | false ↦ λ is. ltb-false 16777216 n is ] refl
+
+-- what was read up to the limit is the whole input, or shows that it is too long
+pub read_out : (old new : Option (List ℕ)) (bytes : List ℕ) → TakesUpTo (16777216 + 1) old new bytes → WasReadOut old new
+read_out None new bytes read = inl (subst IsAtEnd (sym read.rest) tt)
+read_out (Some all) new bytes read = elim (nat_lt 16777216 (length all)) as (λ b. nat_lt 16777216 (length all) ≡ b → WasReadOut (Some all) new) [
+  | true ↦ λ is. inr (ltb-true 16777216 (length all) is)
+  | false ↦ λ is. let within : length all ≤ 16777216 = ltb-false 16777216 (length all) is in
+      inl (subst IsAtEnd (sym read.rest) (drop_all (16777216 + 1) all (omega (arith, within))))
+] refl

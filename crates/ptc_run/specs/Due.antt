@@ -1,6 +1,6 @@
 -- What is due for the words and the input: the text to be written, and the status that goes with it.
 use Rattle.std.specs.Prelude.{◌≡◌, ◌<◌, ◌≤◌, ◌⊎◌, ℕ, List, Option, Result, Ok, Err, length, IfSome}
-use Rattle.ptc_io.specs.Bytes.{Appends, AppendsFront}
+use Rattle.ptc_io.specs.Bytes.{Appends, AppendsFront, IsAtEnd}
 use Rattle.workload_file.specs.declared.workload.Workload.{Workload}
 use Rattle.cluster_core.specs.World.{WorldView, begun, EndsIn}
 use Rattle.cluster_core.specs.Report.{report_of, status_of}
@@ -70,6 +70,10 @@ IsWritten code = (code ≡ 0) ⊎ ((code ≡ 16) ⊎ (code ≡ 1))
 -- a status of a whole report
 abbrev pub IsReported : ℕ → Type 0
 IsReported code = (code ≡ 0) ⊎ (code ≡ 16)
+
+-- an input was read to its end, or has more bytes than a file may have, as far as it is told
+abbrev pub WasReadOut : Option (List ℕ) → Option (List ℕ) → Type 0
+WasReadOut before after = IsAtEnd after ⊎ IfSome before (λ input. 16777216 < length input)
 
 -- the run of a workload ends in a world, whose report and status these are
 pub record Reports (workload : Workload) (code : ℕ) (text : List ℕ) : Type 0 where

@@ -15,12 +15,12 @@ use crate::kept_rows::{Nodes, rows_from};
 use crate::line_cuts::behind_line;
 use crate::schedule_lines::read_schedule;
 use crate::script_lines::read_sessions;
-use workload_file::{Copies, Schedule, Workload};
 use ptc_statement::Scripts;
 use row_types::{
     Bytes, Column, ColumnKind, Columns, Memory, R, Schema, SchemaList, Schemas, Tables,
 };
 use std::alloc::{AllocError, AllocFailed, Global};
+use workload_file::{Copies, Schedule, Workload};
 
 /// What a file has too much of.
 #[derive(Clone, Copy, Debug, PartialEq, Eq)]
@@ -269,6 +269,3 @@ pub fn one_reading()
         IsEarly bytes number → IsWorkloadText bytes w → ⊥ }
     ensures keeps_rules { (bytes : List ℕ) (w : WholeWorkload) → IsWorkloadText bytes w → IsWorkload w }
 {}
-
-#[cfg(test)]
-mod tests;

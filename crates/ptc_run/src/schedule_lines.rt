@@ -6,9 +6,9 @@ ghost use Rattle.ptc_run.specs.ScheduleLines.{schedule_line, item_of, items_of, 
 ghost use Rattle.ptc_run.specs.ScheduleReads.{BeginsNoWord, WordRead, WordsRead, ScheduleRead};
 
 use crate::line_cuts::{behind, first_line};
-use workload_file::{Actor, Item, Schedule};
 use row_types::R;
 use std::alloc::Global;
+use workload_file::{Actor, Item, Schedule};
 
 /// Whose turn an item of a SCHEDULE line names: `s1`, `c` or `r1`.
 #[derive(Clone, Copy, Debug, PartialEq, Eq)]

@@ -3,18 +3,18 @@ ghost use Rattle.std.specs.Prelude.{◌≡◌, ◌<◌, ◌≤◌, ◌⊎◌, Li
 ghost use Rattle.workload_file.specs.declared.workload.Workload.{Workload as WholeWorkload};
 ghost use Rattle.workload_file.specs.Workload.{IsWorkload};
 ghost use Rattle.ptc_io.specs.Faults.{HasRisen};
-ghost use Rattle.ptc_io.specs.Bytes.{IsAtEnd};
+ghost use Rattle.ptc_io.specs.Bytes.{IsAtEnd, TakesAtMost};
 ghost use Rattle.ptc_run.specs.FirstForm.{IsWorkloadText};
-ghost use Rattle.ptc_run.specs.Due.{Due, FileDue, Reports, WroteDue, WroteFront, AreTaken, IsWritten, IsReported};
+ghost use Rattle.ptc_run.specs.Due.{Due, FileDue, Reports, WroteDue, WroteFront, AreTaken, IsWritten, IsReported, WasReadOut};
 
 use crate::first_form;
 use crate::first_form::FileFault;
 use crate::words::{read_words, refuse_bytes, refuse_line, refuse_words};
 use cluster_core::World;
-use workload_file::Workload;
 use ptc_io::{ReadFault, Sink, Source, Status, read_to_limit, write_all};
 use row_types::{Bytes, Memory, R};
 use std::alloc::Global;
+use workload_file::Workload;
 
 /// The most bytes that a file may have.
 const MOST_BYTES: usize = 16_777_216;
@@ -64,6 +64,11 @@ pub fn ptc<I: Source, O: Sink>(
     ensures whole { IsWritten result.code → WroteDue (map string_bytes words.now) (I.left input.old) (O.written output.old) (O.written output.new) result.code }
     ensures ended { IsReported result.code → AreTaken (map string_bytes words.now) × IsAtEnd (I.left input.new) }
 
+    // No more is taken than shows that an input is too long, and a file is refused only after it was
+    // read to its end or shown to be too long.
+    ensures taken { TakesAtMost 16777217 (I.left input.old) (I.left input.new) }
+    ensures refused { result.code ≡ 1 → AreTaken (map string_bytes words.now) → WasReadOut (I.left input.old) (I.left input.new) }
+
     // A source that failed, or want of memory, leaves the sink as it was.
     ensures read { result.code ≡ 2 → AreTaken (map string_bytes words.now) × HasRisen (I.faults input.old) (I.faults input.new) × (output.new ≡ output.old) }
     ensures memory { result.code ≡ 4 → output.new ≡ output.old }
@@ -100,6 +105,8 @@ fn whole_answer<I: Source>(
     ensures due { IfOk result (λ answer. Due (map string_bytes words.now) (I.left input.old) answer.code answer.text) }
     ensures code { IfOk result (λ answer. IsWritten answer.code) }
     ensures ended { IfOk result (λ answer. IsReported answer.code → AreTaken (map string_bytes words.now) × IsAtEnd (I.left input.new)) }
+    ensures taken { TakesAtMost 16777217 (I.left input.old) (I.left input.new) }
+    ensures refused { IfOk result (λ answer. AreTaken (map string_bytes words.now) → WasReadOut (I.left input.old) (I.left input.new)) }
     ensures read { result ≡ Err NoAnswer.Read → AreTaken (map string_bytes words.now) × HasRisen (I.faults input.old) (I.faults input.new) }
     ensures unread { (AreTaken (map string_bytes words.now) → ⊥) → input.new ≡ input.old }
 {
@@ -120,6 +127,8 @@ fn input_answer<I: Source>(alloc: Global, input: &mut I) -> Result<Answer, NoAns
     ensures due { IfOk result (λ answer. IfSome (I.left input.old) (λ bytes. FileDue bytes answer.code answer.text)) }
     ensures code { IfOk result (λ answer. IsWritten answer.code) }
     ensures ended { IfOk result (λ answer. IsReported answer.code → IsAtEnd (I.left input.new)) }
+    ensures taken { TakesAtMost 16777217 (I.left input.old) (I.left input.new) }
+    ensures read_out { IfOk result (λ answer. WasReadOut (I.left input.old) (I.left input.new)) }
     ensures read { result ≡ Err NoAnswer.Read → HasRisen (I.faults input.old) (I.faults input.new) }
 {
     match read_to_limit(alloc, input, MOST_BYTES) {

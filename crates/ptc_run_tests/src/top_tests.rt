@@ -1,9 +1,9 @@
-use crate::ptc;
+//! The top call: each status, the lines of refusal, and reports.
+use crate::file_texts::HEAD;
 use ptc_io::{MemorySink, MemorySource};
+use ptc_run::ptc;
 use std::alloc::{AllocError, Global};
 use std::test::Fail;
-
-const HEAD: &str = "PTC WORKLOAD 1\nREPLICAS 1\nTABLE t (id BIGINT KEY, v BIGINT)\n";
 
 /// The report of the file without rows.
 const EMPTY: &str =

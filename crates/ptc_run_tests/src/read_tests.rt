@@ -1,10 +1,12 @@
-use super::*;
-use workload_file::{Actor, Item};
+//! The reader of the file: what it reads, and the first line that is not in the form.
+use crate::file_texts::HEAD;
+use ptc_run::{FileFault, LimitKind, read};
 use ptc_statement::{Assignment, Cond, Expr, Op, ScriptStep, Sets, Statement};
-use row_types::{Row, Value};
-use std::test::*;
-
-const HEAD: &str = "PTC WORKLOAD 1\nREPLICAS 1\nTABLE t (id BIGINT KEY, v BIGINT)\n";
+use row_types::{Tables, Value};
+use std::alloc::Global;
+use std::test::Fail;
+use test_builders::{pair_schema, row};
+use workload_file::{Actor, Item, Workload};
 
 fn read_body(rt: &HostRuntime, body: &str) -> Result<Result<Workload, FileFault>, Fail> {
     let text = format!(in rt.alloc(); "{HEAD}{body}")?;
@@ -127,24 +129,21 @@ fn key_is(key: i64) -> Option<Cond> {
 }
 
 fn insert(alloc: Global, key: i64, value: i64) -> Result<Statement, Fail> {
-    let mut items = Vec::new(alloc);
-    items.push(Value::Int(key))?;
-    items.push(Value::Int(value))?;
     Ok(Statement::Insert {
         table: 0,
-        row: Row { items },
+        row: row(alloc, key, value)?,
     })
 }
 
 fn update(alloc: Global, key: i64, value: i64) -> Result<Statement, Fail> {
-    let mut items = Vec::new(alloc);
-    items.push(Assignment {
+    let mut sets = Sets::new(alloc);
+    sets.push(Assignment {
         column: 1,
         expr: Expr::Lit(Value::Int(value)),
     })?;
     Ok(Statement::Update {
         table: 0,
-        sets: Sets { items },
+        sets,
         cond: key_is(key),
     })
 }
@@ -369,17 +368,33 @@ fn finds_early_items(rt: HostRuntime) -> Result<(), Fail> {
     Ok(())
 }
 
-/// A copy of a fault is the same fault.
+/// The one table, and the replica.
 #[test]
-fn faults_are_copied(rt: HostRuntime) {
+fn reads_the_head(rt: HostRuntime) -> Result<(), Fail> {
+    match read_body(&rt, "END\n")? {
+        Err(_) => return Err(Fail::from("the head is read")),
+        Ok(workload) => {
+            assert_eq!(rt; workload.replicas, 1);
+            let [schema] = workload.schemas.tables.as_slice() else {
+                return Err(Fail::from("one table is read"));
+            };
+            assert!(rt; schema.same(&pair_schema(rt.alloc(), b"t")?));
+        }
+    }
+    Ok(())
+}
+
+/// One byte more than a file may have.
+#[test]
+fn too_many_bytes_pass_the_limit(rt: HostRuntime) -> Result<(), Fail> {
+    let bytes = vec![in rt.alloc(); b'x'; 16_777_217]?;
     let limit = FileFault::Limit {
         which: LimitKind::Bytes,
-        got: 16777217,
+        got: 16_777_217,
     };
-    for fault in [FileFault::Early { number: 3 }, limit, FileFault::Memory] {
-        let copy = fault.copy(rt.alloc()).expect(&rt, "memory");
-        assert!(rt; copy.same(&fault) && !copy.same(&FileFault::Early { number: 4 }));
+    match read(rt.alloc(), bytes.as_slice()) {
+        Err(fault) => assert!(rt; fault.same(&limit)),
+        Ok(_) => return Err(Fail::from("too many bytes are refused")),
     }
-    let kind = LimitKind::Bytes.copy(rt.alloc()).expect(&rt, "memory");
-    assert!(rt; kind.same(&LimitKind::Bytes));
+    Ok(())
 }
