@@ -25,7 +25,6 @@ use Rattle.ptc_run.specs.ScriptLines.{NumbersFitScript, AllowedScript, has_key, 
 use Rattle.ptc_run.specs.declared.schedule_lines.ScheduleWord.{ScheduleWord}
 use Rattle.ptc_run.specs.declared.schedule_lines.ScheduleWord.TheVariants.{Session, Tool, Worker}
 use Rattle.ptc_run.specs.ScheduleLines.{AllowedWord, AllowedWords, AllowedSchedule, item_of, items_of, schedule_of}
-use Rattle.std.proofs.lemmas.Option.{same_Some}
 use Rattle.ptc_run.specs.declared.row_lines.RowLine.{RowLine}
 use Rattle.ptc_run.specs.RowLines.{NumbersFit, is_for_source, is_for_replica}
 use Rattle.ptc_run.specs.FirstForm.{first_schema, values_of, table_of, source_rows, replica_rows, workload_of, Allowed, IsWorkloadText}
@@ -150,9 +149,11 @@ on_first (Update key value) = refl
 on_first (Delete key) = refl
 
 fits_first : (text : ScriptText) → NumbersFitScript text → FitsSchemas (first_schema ∷ []) (statement_of text)
-fits_first text f = λ schema e.
-    let same : ◌≡◌ {A = Schema} first_schema schema = same_Some first_schema schema (sym (ap (slice_get (first_schema ∷ [])) (on_first text)) ∙ e) in
-    subst (λ (s : Schema). StatementFits s (statement_of text)) same (statement_fits text f)
+fits_first text f = record {
+  schema = first_schema;
+  found = ap (slice_get (first_schema ∷ [])) (on_first text);
+  fits = statement_fits text f;
+}
 
 steps_fit : (texts : List ScriptText) (number : ℕ) → AllByRecursion NumbersFitScript texts → AllByRecursion (λ (line : ScriptLine). StepFits (first_schema ∷ []) line.step) (numbered number texts)
 steps_fit [] number f = tt
