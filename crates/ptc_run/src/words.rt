@@ -2,8 +2,8 @@
 ghost use Rattle.std.specs.Prelude.{◌≡◌, ◌++◌, ◌↔◌, IsTrue, IfOk, IfErr, OnOk, map, string_bytes};
 ghost use Rattle.ptc_run.specs.Words.{words_read, IsOfWords, word_refusal, early_refusal, limit_refusal, workload_refused};
 
-use cluster_core::texts::{push_bytes, push_number};
 use row_types::{Bytes, R};
+use statement_text::{push_bytes, push_number};
 use std::alloc::Global;
 
 /// Why words are refused. Words are counted from 1.
@@ -64,7 +64,7 @@ pub fn refuse_words(alloc: Global, words: &[String], fault: WordFault) -> R<Byte
         WordFault::Nothing => push_bytes(&mut out, b"ptc: no command\n")?,
         WordFault::Bad { index } => {
             push_bytes(&mut out, b"ptc: word ")?;
-            push_number(alloc, &mut out, index as u64)?;
+            push_number(&mut out, index as u64)?;
             push_bytes(&mut out, b" refused: ")?;
             push_bytes(&mut out, words[(index - 1) as usize].as_bytes())?;
             push_bytes(&mut out, b"\n")?;
@@ -88,7 +88,7 @@ pub fn refuse_line(alloc: Global, number: u32) -> R<Bytes>
     let mut out = Vec::new(alloc);
     push_refused(&mut out)?;
     push_bytes(&mut out, b"line ")?;
-    push_number(alloc, &mut out, number as u64)?;
+    push_number(&mut out, number as u64)?;
     push_bytes(&mut out, b": early\n")?;
     Ok(Bytes { items: out })
 }
@@ -101,7 +101,7 @@ pub fn refuse_bytes(alloc: Global, got: u64) -> R<Bytes>
     let mut out = Vec::new(alloc);
     push_refused(&mut out)?;
     push_bytes(&mut out, b"limit bytes: ")?;
-    push_number(alloc, &mut out, got)?;
+    push_number(&mut out, got)?;
     push_bytes(&mut out, b"\n")?;
     Ok(Bytes { items: out })
 }
