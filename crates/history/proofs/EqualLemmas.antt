@@ -1,6 +1,6 @@
 -- Tables that are equal at a position stay equal while the replica follows the log and nobody else
 -- writes them.
-use Rattle.std.proofs.Common.{◌≡◌, ◌≢◌, ℕ, zero, suc, ◌+◌, ◌<◌, ◌≤◌, List, [], ◌∷◌, ◌++◌, length, take, Option, None, Some, slice_get, refl, ap, ◌∙◌, sym, subst, arith}
+use Rattle.std.proofs.Common.{◌≡◌, ◌≢◌, ℕ, zero, suc, ◌+◌, ◌≤◌, List, [], ◌∷◌, ◌++◌, length, take, Option, None, Some, slice_get, refl, ap, ◌∙◌, sym, subst, arith}
 use Rattle.std.specs.Prelude.{slice_set}
 use Rattle.std.specs.List.{AllByRecursion}
 use Rattle.std.specs.Option.{option_map_or}
@@ -13,7 +13,7 @@ use Rattle.ptc_statement.specs.Effect.{table_of, rows_after}
 use Rattle.statement_log.specs.declared.origins.Origin.{Origin}
 use Rattle.statement_log.specs.declared.origins.Origin.TheVariants.{Session, Checksum, Sync, Local, Applied}
 use Rattle.statement_log.specs.declared.entries.Entry.{Entry}
-use Rattle.history.specs.Replay.{NodeLog, Replayed, table_rows, tables_after, after_statement, after_statements, after_entry, position_of, replay_from, fold, source_at, applied_from, applied_of, up_to_applied, IsNextOf, FollowsFrom, Follows}
+use Rattle.history.specs.Replay.{NodeLog, Replayed, table_rows, tables_after, after_statement, after_statements, after_entry, position_of, replay_from, fold, applied_from, applied_of, up_to_applied, IsNextOf, FollowsFrom, Follows}
 use Rattle.history.specs.Headline.{behind_applied, AreElsewhere, LeavesTable, NobodyElseWrites, AreEqualAt, AreEqualAtEnd}
 use Rattle.history.proofs.ReplayLemmas.{fold-take_more, follows_behind, up_to_behind, up_to_applied_of, applied_from-append, replay_from-append}
 
