@@ -4,12 +4,15 @@ use Rattle.std.specs.Prelude.{slice_index_or, slice_set, option_map, option_and_
 use Rattle.std.specs.List.{AllByRecursion, slice_get}
 use Rattle.std.proofs.lemmas.List.{set-get_or}
 use Rattle.row_types.specs.declared.table_schema.Schema.{Schema}
+use Rattle.row_types.specs.declared.edges.Span.{Span}
+use Rattle.row_types.specs.declared.digests.Digest.{Digest}
+use Rattle.row_types.specs.declared.digests.DigestKind.{DigestKind}
 use Rattle.ptc_statement.specs.declared.statements.Statement.{Statement}
+use Rattle.ptc_statement.specs.declared.statements.Statement.TheVariants.{Check, SetMaster, ClearChecks}
 use Rattle.ptc_statement.specs.declared.scripts.ScriptLine.{ScriptLine}
 use Rattle.ptc_statement.specs.declared.scripts.ScriptStep.{ScriptStep}
 use Rattle.ptc_statement.specs.declared.scripts.ScriptStep.TheVariants.{Begin, Commit, Rollback, Run}
-use Rattle.ptc_statement.specs.Fits.{StatementFits, FitsSchemas}
-use Rattle.statement_log.specs.declared.origins.Origin.{Origin}
+use Rattle.ptc_statement.specs.Fits.{FitsSchemas}
 use Rattle.statement_log.specs.declared.entries.Entry.{Entry}
 use Rattle.cluster_core.proofs.EachLemmas.{each_append, each_at, each_more}
 use Rattle.cluster_core.proofs.MoveLemmas.{slice_get-within}
@@ -18,56 +21,72 @@ use Rattle.row_types.specs.declared.values.Value.{Value}
 use Rattle.ptc_statement.specs.declared.scripts.Script.{Script}
 use Rattle.workload_file.specs.declared.workload.Workload.{Workload}
 use Rattle.workload_file.specs.Workload.{StepFits, ScriptFits, ItemFits, IsWorkload}
-use Rattle.cluster_core.specs.Sessions.{SessionView, unstarted, is_duplicate, by_session, step_left, line_left}
+use Rattle.cluster_core.specs.Sessions.{SessionView, unstarted, is_duplicate, by_session, with_refusal, step_left, line_left}
 use Rattle.cluster_core.specs.World.{WorldView, fresh, session_turn, line_turn, with_session}
-use Rattle.cluster_core.specs.Good.{IsOneFitting, StepsFit, HasSchemas}
+use Rattle.cluster_core.specs.Good.{EntryFits, StepsFit, HasSchemas}
 use Rattle.cluster_core.specs.Turns.{Takes, ItemIsNumbered}
 use Rattle.workload_file.specs.declared.actors.Actor.TheVariants.{Session, Tool, Worker}
 use Rattle.workload_file.specs.declared.schedule.Item.{Item}
 use Rattle.workload_file.specs.declared.schedule.Item.TheVariants.{Turn}
 
--- a statement that fits any schema fits these
-pub fits_all : (schemas : List Schema) (statement : Statement) → ((schema : Schema) → StatementFits schema statement) → FitsSchemas schemas statement
-fits_all schemas statement fits schema found = fits schema
+schema_at : (schemas : List Schema) (table : ℕ) → table < length schemas → (schema : Schema) × (slice_get schemas table ≡ Some schema)
+schema_at [] table within = absurd (omega arith)
+schema_at (schema ∷ schemas) zero within = (schema, refl)
+schema_at (schema ∷ schemas) (suc table) within = schema_at schemas table (omega arith)
 
--- one more entry, of one statement
-pub log_more : (schemas : List Schema) (log new : List Entry) (origin : Origin) (statement : Statement)
-    → AllByRecursion (IsOneFitting schemas) log → FitsSchemas schemas statement
-    → new ≡ log ++ record { origin = origin; statements = statement ∷ [] } ∷ []
-    → AllByRecursion (IsOneFitting schemas) new
-log_more schemas log new origin statement all fits is =
-    subst (AllByRecursion (IsOneFitting schemas)) (sym is)
-    (each_append (IsOneFitting schemas) log (record { origin = origin; statements = statement ∷ [] } ∷ []) all (record { statement = statement; only = refl; fits = fits }, tt))
+-- the tool's statements fit where their table is there
+pub clear_fits : (schemas : List Schema) (table : ℕ) → table < length schemas → FitsSchemas schemas (ClearChecks table)
+clear_fits schemas table within =
+    let at = schema_at schemas table within in
+    record { schema = at.0; found = at.1; fits = tt }
+
+pub check_fits : (schemas : List Schema) (table chunk : ℕ) (span : Span) (kind : DigestKind) → table < length schemas → FitsSchemas schemas (Check table chunk span kind)
+check_fits schemas table chunk span kind within =
+    let at = schema_at schemas table within in
+    record { schema = at.0; found = at.1; fits = tt }
+
+pub master_fits : (schemas : List Schema) (table chunk : ℕ) (kind : DigestKind) (master : Digest) → table < length schemas → FitsSchemas schemas (SetMaster table chunk kind master)
+master_fits schemas table chunk kind master within =
+    let at = schema_at schemas table within in
+    record { schema = at.0; found = at.1; fits = tt }
+
+-- one more entry
+pub log_more : (schemas : List Schema) (log new : List Entry) (entry : Entry)
+    → AllByRecursion (EntryFits schemas) log → EntryFits schemas entry
+    → new ≡ log ++ entry ∷ []
+    → AllByRecursion (EntryFits schemas) new
+log_more schemas log new entry all fits is =
+    subst (AllByRecursion (EntryFits schemas)) (sym is) (each_append (EntryFits schemas) log (entry ∷ []) all (fits, tt))
 
 -- what a session's turn keeps of the session and of the source
 pub record KeepsBoth (schemas : List Schema) (old new : SessionView) (source after : NodeView) : Type 0 where
   pub script : new.script ≡ old.script
   pub schemas_stay : after.schemas ≡ source.schemas
-  pub log : AllByRecursion (IsOneFitting schemas) after.history
+  pub log : AllByRecursion (EntryFits schemas) after.history
 
 step_keeps : (schemas : List Schema) (session : ℕ) (view : SessionView) (line : ScriptLine) (step : ScriptStep) (source : NodeView)
-    → StepFits schemas step → AllByRecursion (IsOneFitting schemas) source.history
+    → StepFits schemas step → AllByRecursion (EntryFits schemas) source.history
     → KeepsBoth schemas view (step_left session view line step source).0 source (step_left session view line step source).1
 step_keeps schemas session view line Begin source fits log = absurd fits
 step_keeps schemas session view line Commit source fits log = absurd fits
 step_keeps schemas session view line Rollback source fits log = absurd fits
 step_keeps schemas session view line (Run statement) source fits log =
     let P : Bool → Type 0 = λ b. KeepsBoth schemas view
-    (cond {A = SessionView × NodeView} b (record view { next = view.next + 1; refused = view.refused ++ line.line ∷ [] }, source) (record view { next = view.next + 1 }, logged source (by_session session statement))).0
+    (cond {A = SessionView × NodeView} b (with_refusal (length source.history) line view, source) (record view { next = view.next + 1 }, logged source (by_session session statement))).0
     source
-    (cond {A = SessionView × NodeView} b (record view { next = view.next + 1; refused = view.refused ++ line.line ∷ [] }, source) (record view { next = view.next + 1 }, logged source (by_session session statement))).1 in
+    (cond {A = SessionView × NodeView} b (with_refusal (length source.history) line view, source) (record view { next = view.next + 1 }, logged source (by_session session statement))).1 in
     elim (is_duplicate source statement) as P [
       | true ↦ record { script = refl; schemas_stay = refl; log = log }
       | false ↦ record {
         script = refl;
         schemas_stay = refl;
-        log = each_append (IsOneFitting schemas) source.history (by_session session statement ∷ []) log (record { statement = statement; only = refl; fits = fits.1 }, tt);
+        log = each_append (EntryFits schemas) source.history (by_session session statement ∷ []) log ((fits.1, tt), tt);
       }
     ]
 
 turn_keeps_at : (schemas : List Schema) (session : ℕ) (view new : SessionView) (source after : NodeView) (moved : Bool) (found : Option ScriptLine)
     → slice_get view.script view.next ≡ found
-    → StepsFit schemas view → AllByRecursion (IsOneFitting schemas) source.history
+    → StepsFit schemas view → AllByRecursion (EntryFits schemas) source.history
     → Takes (option_map (λ (line : ScriptLine). step_left session view line line.step source) found) moved (view, source) (new, after)
     → KeepsBoth schemas view new source after
 turn_keeps_at schemas session view new source after moved None found steps log takes =
@@ -76,14 +95,14 @@ turn_keeps_at schemas session view new source after moved None found steps log t
     record {
       script = ap (λ (v : SessionView). v.script) view_is;
       schemas_stay = ap (λ (n : NodeView). n.schemas) source_is;
-      log = subst (λ (n : NodeView). AllByRecursion (IsOneFitting schemas) n.history) (sym source_is) log;
+      log = subst (λ (n : NodeView). AllByRecursion (EntryFits schemas) n.history) (sym source_is) log;
     }
 turn_keeps_at schemas session view new source after moved (Some line) found steps log takes =
     let kept = step_keeps schemas session view line line.step source (each_at (λ (l : ScriptLine). StepFits schemas l.step) view.script view.next line steps found) log in
     subst (λ (p : SessionView × NodeView). KeepsBoth schemas view p.0 source p.1) (sym takes.state) kept
 
 pub turn_keeps : (schemas : List Schema) (session : ℕ) (view new : SessionView) (source after : NodeView) (moved : Bool)
-    → StepsFit schemas view → AllByRecursion (IsOneFitting schemas) source.history
+    → StepsFit schemas view → AllByRecursion (EntryFits schemas) source.history
     → Takes (line_left session view source) moved (view, source) (new, after)
     → KeepsBoth schemas view new source after
 turn_keeps schemas session view new source after moved steps log takes =
@@ -140,17 +159,19 @@ schedule_numbered workload is =
     is.schedule
 
 pub record KeptParts (source : NodeView) (replicas : List NodeView) (sessions : List SessionView) (schedule : List Item) : Type 0 where
+  pub some_table : 0 < length source.schemas
   pub tables : length source.schemas ≤ 16
   pub few_replicas : length replicas ≤ 8
   pub few_sessions : length sessions ≤ 64
   pub same : AllByRecursion (HasSchemas source.schemas) replicas
-  pub log : AllByRecursion (IsOneFitting source.schemas) source.history
+  pub log : AllByRecursion (EntryFits source.schemas) source.history
   pub scripts : AllByRecursion (StepsFit source.schemas) sessions
   pub items : AllByRecursion ItemIsNumbered schedule
 
 pub begun_parts : (workload : Workload) → IsWorkload workload
     → KeptParts (fresh workload.schemas.tables workload.source) (map (fresh workload.schemas.tables) workload.copies) (map unstarted workload.sessions) workload.schedule
 begun_parts workload is = record {
+  some_table = omega (arith, is.some_table);
   tables = is.most_tables;
   few_replicas = omega (arith, length_map (fresh workload.schemas.tables) workload.copies, is.each_copied, is.most_replicas);
   few_sessions = omega (arith, length_map unstarted workload.sessions, is.most_sessions);

@@ -25,7 +25,7 @@ use Rattle.table_changes.specs.Plans.{IsSound}
 use Rattle.table_changes.proofs.DueLemmas.{same_row}
 use Rattle.history.specs.Replay.{chunk_rows, table_rows, tables_after}
 use Rattle.cluster_core.specs.LiveTables.{row_in, rows_of_each}
-use Rattle.cluster_core.specs.LiveParts.{AreSound}
+use Rattle.cluster_core.specs.LiveParts.{AreSound, without_spare}
 use Rattle.cluster_core.proofs.MoveLemmas.{slice_get-within}
 
 text_is_short : (kind : ColumnKind) (text : List ℕ) → KindFits kind → TextFits kind text → length text < 2 ^ 32
@@ -149,13 +149,7 @@ rows_set [] place table = refl
 rows_set (one ∷ tables) zero table = refl
 rows_set (one ∷ tables) (suc place) table = ap (λ rest. one.rows ∷ rest) (rows_set tables place table)
 
--- where no schema stands, a statement leaves the tables
-pub tables_stay : (schemas : List Schema) (statement : Statement) (tables : List (List (List Value))) → slice_get schemas (table_of statement) ≡ None
-    → tables_after schemas statement tables ≡ tables
-tables_stay schemas statement tables absent =
-    ap (λ (o : Option Schema). option_map_or (λ (schema : Schema). slice_set tables (table_of statement) (rows_after schema statement (table_rows tables (table_of statement)))) o tables) absent
-
--- where one stands, it changes its table's rows
+-- where its schema stands, a statement changes its table's rows
 pub tables_change : (schemas : List Schema) (statement : Statement) (tables : List (List (List Value))) (schema : Schema) → slice_get schemas (table_of statement) ≡ Some schema
     → tables_after schemas statement tables ≡ slice_set tables (table_of statement) (rows_after schema statement (table_rows tables (table_of statement)))
 tables_change schemas statement tables schema found =
@@ -239,3 +233,14 @@ take_whole [] zero all = refl
 take_whole [] (suc n) all = refl
 take_whole (x ∷ xs) zero all = absurd (omega arith)
 take_whole (x ∷ xs) (suc n) all = ap (λ ys. x ∷ ys) (take_whole xs n (omega arith))
+
+-- copies of tables have their rows, and are as sound
+pub copied_rows : (tables : List TableView) → rows_of_each (map without_spare tables) ≡ rows_of_each tables
+copied_rows [] = refl
+copied_rows (table ∷ tables) = ap (λ rest. table.rows ∷ rest) (copied_rows tables)
+
+pub copied_sound : (schemas : List Schema) (tables : List TableView) → AreSound schemas tables → AreSound schemas (map without_spare tables)
+copied_sound [] [] are = tt
+copied_sound [] (table ∷ tables) are = absurd are
+copied_sound (schema ∷ schemas) [] are = absurd are
+copied_sound (schema ∷ schemas) (table ∷ tables) are = (are.0, copied_sound schemas tables are.1)

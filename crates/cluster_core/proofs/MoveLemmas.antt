@@ -19,8 +19,9 @@ use Rattle.checksum_table.specs.Checks.{check_at}
 use Rattle.history.specs.Replay.{applied_of, applying}
 use Rattle.history.proofs.ReplayLemmas.{applied_of-more}
 use Rattle.cluster_core.specs.Node.{NodeView, logged, replayed_of}
-use Rattle.cluster_core.specs.Sessions.{SessionView, is_duplicate, by_session, step_left}
+use Rattle.cluster_core.specs.Sessions.{SessionView, is_duplicate, by_session, with_refusal, step_left}
 use Rattle.cluster_core.specs.World.{WorldView, with_session, line_turn, session_turn, tool_turn_in, tool_logged, published, next_phase, next_applied, whole_table, worker_turn, turn, step}
+use Rattle.cluster_core.specs.declared.refusals.Refusal.{Refusal}
 use Rattle.cluster_core.specs.Turns.{Takes, entries_left, lags, lines_left, turns_left}
 use Rattle.workload_file.specs.declared.actors.Actor.{Actor}
 use Rattle.workload_file.specs.declared.actors.Actor.TheVariants.{Session, Tool, Worker}
@@ -189,7 +190,7 @@ abbrev pub line_logged : ℕ → SessionView → Statement → WorldView → Wor
 line_logged session view statement w = with_session session (record view { next = view.next + 1 }, logged w.source (by_session session statement)) w
 
 abbrev pub line_refused : ℕ → SessionView → ScriptLine → WorldView → WorldView
-line_refused session view line w = with_session session (record view { next = view.next + 1; refused = view.refused ++ line.line ∷ [] }, w.source) w
+line_refused session view line w = with_session session (with_refusal (length w.source.history) line view, w.source) w
 
 abbrev pub line_done : ℕ → SessionView → ScriptLine → ScriptStep → WorldView → WorldView
 line_done session view line step w = with_session session (step_left session view line step w.source) w
@@ -209,10 +210,10 @@ line_logged_nearer session view statement w found within =
     omega (arith, mul-le-mul_left (length w.replicas + 1) less)
 
 -- a session is behind its next line, and the source is as it was
-abbrev line_passed : ℕ → SessionView → List ℕ → WorldView → WorldView
+abbrev line_passed : ℕ → SessionView → List Refusal → WorldView → WorldView
 line_passed session view refused w = with_session session (record view { next = view.next + 1; refused = refused }, w.source) w
 
-line_passed_nearer : (session : ℕ) (view : SessionView) (refused : List ℕ) (w : WorldView)
+line_passed_nearer : (session : ℕ) (view : SessionView) (refused : List Refusal) (w : WorldView)
     → slice_get w.sessions (session - 1) ≡ Some view
     → view.next < length view.script
     → turns_left (line_passed session view refused w) < turns_left w
@@ -258,7 +259,7 @@ pub line_done_either : (P : WorldView → Type 0) (session : ℕ) (view : Sessio
     → P (line_done session view line (Run statement) w)
 line_done_either P session view line statement w refuses logs =
     elim (is_duplicate w.source statement) as (λ b. is_duplicate w.source statement ≡ b
-    → P (with_session session (cond {A = SessionView × NodeView} b (record view { next = view.next + 1; refused = view.refused ++ line.line ∷ [] }, w.source) (record view { next = view.next + 1 }, logged w.source (by_session session statement))) w)) [
+    → P (with_session session (cond {A = SessionView × NodeView} b (with_refusal (length w.source.history) line view, w.source) (record view { next = view.next + 1 }, logged w.source (by_session session statement))) w)) [
       | true ↦ λ is. refuses is
       | false ↦ λ is. logs is
     ] refl
@@ -272,7 +273,7 @@ line_nearer session view line Commit w found within = line_passed_nearer session
 line_nearer session view line Rollback w found within = line_passed_nearer session view view.refused w found within
 line_nearer session view line (Run statement) w found within =
     line_done_either (λ (v : WorldView). turns_left v < turns_left w) session view line statement w
-    (λ is. line_passed_nearer session view (view.refused ++ line.line ∷ []) w found within) (λ is. line_logged_nearer session view statement w found within)
+    (λ is. line_passed_nearer session view (with_refusal (length w.source.history) line view).refused w found within) (λ is. line_logged_nearer session view statement w found within)
 
 session_nearer : (session : ℕ) (w v : WorldView) → session_turn session w ≡ Some v → turns_left v < turns_left w
 session_nearer session w v is =

@@ -18,3 +18,6 @@ AreSound (schema ∷ schemas) (table ∷ tables) = IsSound schema table.key_len 
 
 abbrev pub EachIsSound : Inside → Type 0
 EachIsSound live = AreSound live.schemas.tables live.tables.items
+
+abbrev pub without_spare : TableView → TableView
+without_spare table = record table { spare = 0 }

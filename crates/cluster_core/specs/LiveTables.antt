@@ -1,13 +1,12 @@
 -- A node's live tables as callers see them.
-use Rattle.std.specs.Prelude.{ℕ, List, [], ◌∷◌, map, Option, option_and_then}
+use Rattle.std.specs.Prelude.{ℕ, List, map, Option, option_and_then}
 use Rattle.std.specs.List.{slice_get}
 use Rattle.row_types.specs.declared.values.Value.{Value}
 use Rattle.row_types.specs.declared.table_schema.Schema.{Schema}
 use Rattle.row_types.specs.Fit.{key_of}
 use Rattle.ordered_table.specs.TableView.{TableView}
-use Rattle.ptc_statement.specs.declared.statements.Statement.{Statement}
 use Rattle.ptc_statement.specs.Effect.{row_at}
-use Rattle.history.specs.Replay.{table_rows, tables_after}
+use Rattle.history.specs.Replay.{table_rows}
 
 -- the schemas, and the rows of each table
 pub record LiveView : Type 0 where
@@ -22,8 +21,3 @@ rows_of_each tables = map (λ (table : TableView). table.rows) tables
 abbrev pub row_in : List Schema → List (List (List Value)) → ℕ → List Value → Option (List Value)
 row_in schemas tables table row =
     option_and_then (λ (schema : Schema). row_at schema (key_of schema row) (table_rows tables table)) (slice_get schemas table)
-
--- the tables after statements, one after the other
-abbrev pub changed_by : List Statement → LiveView → LiveView
-changed_by [] live = live
-changed_by (statement ∷ statements) live = changed_by statements (record live { tables = tables_after live.schemas statement live.tables })

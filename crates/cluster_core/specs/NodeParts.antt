@@ -5,9 +5,8 @@ use Rattle.cluster_core.specs.Node.{NodeView}
 use Rattle.cluster_core.specs.declared.nodes.Node.TheInside.{Inside}
 
 abbrev pub node_view : Inside → NodeView
-node_view node = record { schemas = node.live.schemas; start = node.start; history = node.history.entries }
+node_view node = record { schemas = node.state.schemas; start = node.start; history = node.history.entries }
 
 pub record FollowsHistory (node : Inside) : Type 0 where
-  pub live : (fold node.live.schemas node.start node.history.entries).tables ≡ node.live.tables
-  pub checks : (fold node.live.schemas node.start node.history.entries).checks ≡ node.checks
+  pub here : fold node.state.schemas node.start node.history.entries ≡ node.state.here
   pub applied : applied_of node.history.entries ≡ node.applied

@@ -20,6 +20,7 @@ use Rattle.checksum_table.specs.declared.check_rows.Verdict.{Verdict}
 use Rattle.checksum_table.specs.declared.check_rows.Verdict.TheVariants.{Same, Differ, Pending}
 use Rattle.checksum_table.specs.Checks.{check_at, with_absent, verdict_of_row}
 use Rattle.cluster_core.specs.Node.{NodeView, replayed_of}
+use Rattle.cluster_core.specs.declared.refusals.Refusal.{Refusal}
 use Rattle.cluster_core.specs.Sessions.{SessionView}
 use Rattle.cluster_core.specs.World.{WorldView}
 use Rattle.cluster_core.specs.declared.report_verdicts.VerdictLine.{VerdictLine}
@@ -236,8 +237,8 @@ abbrev pub status_text : WorldView → List ℕ
 status_text w = status_line (status_of w)
 
 -- a line of a script that was refused as a duplicate
-unfoldable pub duplicate_line : ℕ → ℕ → List ℕ
-duplicate_line session line = codes "DUPLICATE s" ++ decimal session ++ codes " line " ++ decimal line ++ codes "\n"
+unfoldable pub duplicate_line : ℕ → Refusal → List ℕ
+duplicate_line session refusal = codes "DUPLICATE s" ++ decimal session ++ codes " line " ++ decimal refusal.line ++ codes "\n"
 
 -- the duplicates of the sessions, the first of this number
 abbrev pub duplicates_from : ℕ → List SessionView → List ℕ

@@ -4,7 +4,9 @@
 pub mod actors;
 mod condition_texts;
 pub mod live_tables;
+mod node_states;
 pub mod nodes;
+mod refusals;
 mod report;
 mod report_duplicates;
 mod report_nodes;
@@ -17,6 +19,7 @@ pub mod worlds;
 pub use actors::ToolPhase;
 pub use live_tables::LiveTables;
 pub use nodes::Node;
+pub use refusals::Refusal;
 pub use report_verdicts::VerdictLine;
 pub use sessions::Session;
 pub use workload_file::{Actor, Copies, Item, Schedule, Workload};

@@ -1,4 +1,4 @@
-ghost use Rattle.std.specs.Prelude.{◌≡◌, is_some, option_copied, slice_get, IfOk, OnOk, OnErr};
+ghost use Rattle.std.specs.Prelude.{◌≡◌, is_some, option_copied, slice_get, map, IfOk, OnOk, OnErr};
 ghost use Rattle.std.specs.List.{AllByRecursion};
 ghost use Rattle.row_types.specs.Fit.{IsSchema, AreTables};
 ghost use Rattle.ordered_table.specs.KeyRows.{rows_in};
@@ -9,7 +9,7 @@ ghost use Rattle.row_digest.specs.Digest.{digest_of, no_rows};
 ghost use Rattle.table_changes.specs.Plans.{IsSound};
 ghost use Rattle.history.specs.Replay.{chunk_rows, tables_after};
 ghost use Rattle.cluster_core.specs.LiveTables.{row_in, rows_of_each};
-ghost use Rattle.cluster_core.specs.LiveParts.{AreSound};
+ghost use Rattle.cluster_core.specs.LiveParts.{AreSound, without_spare};
 
 use ordered_table::Table;
 use ptc_statement::Statement;
@@ -50,6 +50,15 @@ impl LiveTables {
         Ok(LiveTables { schemas, tables })
     }
 
+    pub fn copy(&self, alloc: Global) -> R<LiveTables>
+        ensures { IfOk result (λ copy. copy ≡ self.now) }
+    {
+        Ok(LiveTables {
+            schemas: self.schemas.copy(alloc)?,
+            tables: table_copies(alloc, self.tables.as_slice())?,
+        })
+    }
+
     pub fn schemas(&self) -> &Schemas
         ensures { result.now.tables ≡ self.now.schemas }
     {
@@ -86,8 +95,7 @@ impl LiveTables {
         }
     }
 
-    /// Does a statement to its table; where there is no such table, nothing. A refusal leaves the rows
-    /// as they were.
+    /// Does a statement to its table; a refusal leaves the rows as they were.
     pub fn change(&mut self, alloc: Global, statement: &Statement) -> R<()>
         requires { FitsSchemas self.old.schemas statement.now }
         ensures ok { OnOk result (self.new ≡ record self.old { tables = tables_after self.old.schemas statement.now self.old.tables }) }
@@ -95,7 +103,7 @@ impl LiveTables {
     {
         let table = statement.table();
         let Some(schema) = self.schemas.tables.get(table) else {
-            return Ok(());
+            unreachable!()
         };
         change_table(alloc, statement, schema, &mut self.tables[table as usize])
     }
@@ -122,6 +130,17 @@ fn tables_of(alloc: Global, schemas: &SchemaList, start: &Tables) -> R<Vec<Table
         tables.push(Table::from_rows(alloc, schemas[place].key_len, rows)?)?;
     }
     Ok(tables)
+}
+
+/// Copies of tables, in which no rows are spare.
+fn table_copies(alloc: Global, tables: &[Table]) -> R<Vec<Table>>
+    ensures { IfOk result (λ copies. copies.items ≡ map without_spare tables.now) }
+{
+    let mut copies = Vec::new(alloc);
+    for table in tables {
+        copies.push(table.copy(alloc)?)?;
+    }
+    Ok(copies)
 }
 
 /// Does a statement to a table of its schema; a refusal leaves the rows as they were.

@@ -1,6 +1,7 @@
 ghost use Rattle.std.specs.Prelude.{◌≡◌, [], ◌∷◌, IfOk};
 ghost use Rattle.row_types.specs.declared.values.Value.TheVariants.{Int};
 
+use crate::Refusal;
 use crate::report::{push_each_equal_line, push_head, push_history, push_log};
 use crate::report_duplicates::push_duplicates;
 use crate::report_verdicts::push_verdicts;
@@ -186,7 +187,15 @@ fn session_log(alloc: Global) -> R<Vec<u8>> {
 
 fn duplicates(alloc: Global) -> R<Vec<u8>> {
     let mut out = Vec::new(alloc);
-    push_duplicates(alloc, &mut out, 1, &[6])?;
+    push_duplicates(
+        alloc,
+        &mut out,
+        1,
+        &[Refusal {
+            line: 6,
+            position: 4,
+        }],
+    )?;
     Ok(out)
 }
 

@@ -7,22 +7,22 @@ ghost use Rattle.cluster_core.specs.Sessions.{line_left};
 ghost use Rattle.cluster_core.specs.Turns.{Takes};
 ghost use Rattle.cluster_core.specs.Sessions.{SessionView, unstarted, advanced};
 ghost use Rattle.cluster_core.specs.Sessions.{is_duplicate as is_duplicate_on};
-ghost use Rattle.ptc_statement.specs.Fits.{FitsSchemas};
 
 use crate::nodes::Node;
+use crate::refusals::Refusal;
 use ptc_statement::{Script, ScriptLine, ScriptStep, Statement};
 use row_types::R;
 use statement_log::Origin;
 use std::alloc::Global;
 use std::marker::Model;
 
-/// A client's session: its script, how many of its lines are done, and the file lines of those that
-/// were refused as duplicates.
+/// A client's session: its script, how many of its lines are done, and those that were refused as
+/// duplicates.
 #[derive(Drop)]
 pub struct Session {
     script: Script,
     next: usize,
-    refused: Vec<u32>,
+    refused: Vec<Refusal>,
 }
 
 impl Model for Session {
@@ -54,8 +54,8 @@ impl Session {
         }
     }
 
-    /// The file lines that were refused as duplicates, in order.
-    pub fn refused(&self) -> &[u32]
+    /// The lines that were refused as duplicates, in order.
+    pub fn refused(&self) -> &[Refusal]
         ensures { result.now ≡ self.now.refused }
     {
         self.refused.as_slice()
@@ -79,12 +79,12 @@ impl Session {
     }
 
     /// Goes on behind a line that was refused; a refusal of memory leaves the session as it was.
-    fn refuse(&mut self, line: u32) -> R<()>
+    fn refuse(&mut self, refusal: Refusal) -> R<()>
         requires { self.old.next < length self.old.script }
-        ensures ok { OnOk result (self.new ≡ record self.old { next = self.old.next + 1; refused = self.old.refused ++ line ∷ [] }) }
+        ensures ok { OnOk result (self.new ≡ record self.old { next = self.old.next + 1; refused = self.old.refused ++ refusal ∷ [] }) }
         ensures err { OnErr result (self.new ≡ self.old) }
     {
-        self.refused.push(line)?;
+        self.refused.push(refusal)?;
         let within = self.next < self.script.lines.len();
         prove!(within);
         self.next += 1;
@@ -107,11 +107,15 @@ impl Session {
             return Ok(true);
         };
         if is_duplicate(source, statement) {
-            self.refuse(number)?;
+            let position = source.history().len();
+            self.refuse(Refusal {
+                line: number,
+                position,
+            })?;
             return Ok(true);
         }
         let statement = statement.copy(alloc)?;
-        source.log(Origin::Session(session), statement)?;
+        source.log_one(Origin::Session(session), statement)?;
         self.advance();
         Ok(true)
     }
@@ -119,7 +123,6 @@ impl Session {
 
 /// Whether it is an INSERT whose key is there.
 fn is_duplicate(source: &Node, statement: &Statement) -> bool
-    requires { FitsSchemas source.now.schemas statement.now }
     ensures { result ≡ is_duplicate_on source.now statement.now }
 {
     match statement {

@@ -1,4 +1,4 @@
-ghost use Rattle.std.specs.Prelude.{◌≡◌, ◌<◌, ◌≤◌, ◌↔◌, ◌++◌, [], ◌∷◌, IsTrue, IfOk, OnOk, OnErr, None, Some, is_some, unwrap_or, map, IfSome};
+ghost use Rattle.std.specs.Prelude.{◌≡◌, ◌<◌, ◌≤◌, ◌↔◌, ◌++◌, [], ◌∷◌, IsTrue, IfOk, OnOk, OnErr, None, Some, is_some, unwrap_or, map, length, IfSome};
 ghost use Rattle.std.specs.List.{AllByRecursion, slice_get};
 ghost use Rattle.row_types.specs.Fit.{IsSchema, AreTables};
 ghost use Rattle.checksum_table.specs.Checks.{check_at};
@@ -7,9 +7,8 @@ ghost use Rattle.workload_file.specs.Workload.{IsWorkload};
 ghost use Rattle.cluster_core.specs.Sessions.{unstarted};
 ghost use Rattle.cluster_core.specs.World.{begun, fresh, session_turn, sessions_from, turn, tool_turn, worker_turn, tool_logged, published, next_phase, next_applied, behind_item, played, order, EndsIn, Reaches};
 ghost use Rattle.cluster_core.specs.Report.{report_of, status_of, starts_text, histories_text, verdicts_text, finals_text};
-ghost use Rattle.cluster_core.specs.Good.{IsOneFitting};
-ghost use Rattle.ptc_statement.specs.Fits.{StatementFits};
-ghost use Rattle.row_types.specs.declared.table_schema.Schema.{Schema};
+ghost use Rattle.cluster_core.specs.Good.{EntryFits, PhaseFits};
+ghost use Rattle.ptc_statement.specs.Fits.{FitsSchemas};
 ghost use Rattle.cluster_core.specs.Turns.{IsNumbered, ItemIsNumbered, Takes, Plays, TookTurns};
 
 use crate::actors::ToolPhase;
@@ -22,7 +21,7 @@ use crate::report_nodes::{
 use crate::sessions::Session;
 use ptc_statement::{Script, Statement};
 use row_types::{Bytes, DigestKind, R, Schemas, Span, Tables};
-use statement_log::{Log, Origin};
+use statement_log::{Entry, Log, Origin};
 use std::alloc::Global;
 use std::marker::Model;
 use workload_file::{Actor, Item, Schedule, Workload};
@@ -308,6 +307,7 @@ impl World {
         Ok(moved)
     }
 
+    #[tactic(auto, using(crate::proofs::KeptLemmas::clear_fits, crate::proofs::KeptLemmas::check_fits))]
     fn tool_turn(&mut self) -> R<bool>
         ensures ok { IfOk result (λ moved. Takes (tool_turn self.old) moved self.old self.new) }
         ensures err { OnErr result (self.new ≡ self.old) }
@@ -333,7 +333,9 @@ impl World {
     }
 
     /// Logs SETMASTER with the checksum that the source's check row has.
+    #[tactic(auto, using(crate::proofs::KeptLemmas::master_fits))]
     fn publish_master(&mut self, table: u32) -> R<bool>
+        requires { table < length self.old.source.schemas }
         ensures ok { IfOk result (λ moved. Takes (published table (check_at table 1 (replayed_of self.old.source).checks) self.old) moved self.old self.new) }
         ensures err { OnErr result (self.new ≡ self.old) }
     {
@@ -352,7 +354,8 @@ impl World {
     }
 
     fn next_phase(&self, table: u32) -> ToolPhase
-        ensures { result ≡ next_phase table self.now }
+        ensures value { result ≡ next_phase table self.now }
+        ensures fits { PhaseFits (length self.now.source.schemas) result }
     {
         let tables = self.source.schemas().tables.len();
         if (table as usize) + 1 < tables {
@@ -363,11 +366,12 @@ impl World {
     }
 
     fn log_by_tool(&mut self, statement: Statement, phase: ToolPhase) -> R<()>
-        requires { (schema : Schema) → StatementFits schema statement }
+        requires statement { FitsSchemas self.old.source.schemas statement }
+        requires phase { PhaseFits (length self.old.source.schemas) phase }
         ensures ok { OnOk result (self.new ≡ tool_logged statement phase self.old) }
         ensures err { OnErr result (self.new ≡ self.old) }
     {
-        self.source.log(Origin::Checksum, statement)?;
+        self.source.log_one(Origin::Checksum, statement)?;
         self.phase = phase;
         Ok(())
     }
@@ -414,7 +418,7 @@ fn fresh_sessions(alloc: Global, mut scripts: Vec<Script>) -> R<Vec<Session>>
 
 /// Applies the log's next entry whole, where there is one.
 fn apply_next(alloc: Global, log: &Log, node: &mut Node) -> R<bool>
-    requires { AllByRecursion (IsOneFitting node.old.schemas) log.now.entries }
+    requires { AllByRecursion (EntryFits node.old.schemas) log.now.entries }
     ensures ok { IfOk result (λ moved. Takes (next_applied log.now.entries node.old) moved node.old node.new) }
     ensures err { OnErr result (node.new ≡ node.old) }
 {
@@ -422,12 +426,10 @@ fn apply_next(alloc: Global, log: &Log, node: &mut Node) -> R<bool>
     let Some(entry) = log.as_slice().get(applied as usize) else {
         return Ok(false);
     };
-    match entry.statements.as_slice() {
-        [statement] => {
-            let statement = statement.copy(alloc)?;
-            node.log(Origin::Applied(applied + 1), statement)?;
-            Ok(true)
-        }
-        _ => unreachable!(),
-    }
+    let statements = entry.statements.copy(alloc)?;
+    node.log(Entry {
+        origin: Origin::Applied(applied + 1),
+        statements,
+    })?;
+    Ok(true)
 }

@@ -27,6 +27,7 @@ invariant_of-self-2 c =
       schemas = rw both.schemas_stay kept.schemas;
       log = rw both.schemas_stay both.log;
       schedule = kept.schedule;
+      phase = rw both.schemas_stay kept.phase;
       scripts = rw both.schemas_stay (each_set (StepsFit schemas) c.self.inside.sessions.items (c.args.session - 1) c.turn.new.self kept.scripts after);
     }
 
