@@ -22,6 +22,3 @@ pub use expressions::{Expr, Op};
 pub use reaches::reach;
 pub use scripts::{Script, ScriptLine, ScriptLines, ScriptStep, Scripts};
 pub use statements::{Statement, Statements};
-
-#[cfg(test)]
-mod tests;

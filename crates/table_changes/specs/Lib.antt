@@ -1,3 +1,2 @@
 pub mod RowChanges
 pub mod Plans
-pub mod TestTable

@@ -1,7 +1,6 @@
 -- What changes of rows give, and the changes that a statement makes to rows in its reach.
 use Rattle.std.specs.Prelude.{ℕ, ◌+◌, Bool, cond, is_some, List, [], ◌∷◌, ◌++◌, Option, None, Some, take}
 use Rattle.std.specs.Ordering.{is_eq}
-use Rattle.row_types.specs.declared.values.Value.{Value}
 use Rattle.row_types.specs.declared.table_schema.Schema.{Schema}
 use Rattle.row_types.specs.Order.{key_cmp}
 use Rattle.row_types.specs.Fit.{key_of}

@@ -6,6 +6,3 @@ mod table_changes;
 
 pub use row_changes::{RowChange, RowChanges};
 pub use table_changes::{TableChange, perform, planned};
-
-#[cfg(test)]
-mod tests;
