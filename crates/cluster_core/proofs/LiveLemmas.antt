@@ -22,7 +22,6 @@ use Rattle.ptc_statement.specs.Fits.{StatementFits}
 use Rattle.ptc_statement.proofs.TableLemmas.{rows_after_table}
 use Rattle.row_digest.specs.Encoding.{IsEncodable}
 use Rattle.table_changes.specs.Plans.{IsSound}
-use Rattle.table_changes.proofs.DueLemmas.{same_row}
 use Rattle.history.specs.Replay.{chunk_rows, table_rows, tables_after}
 use Rattle.cluster_core.specs.LiveTables.{row_in, rows_of_each}
 use Rattle.cluster_core.specs.LiveParts.{AreSound, without_spare}
@@ -192,7 +191,6 @@ row_is schemas tables place schema table row key are found there same =
     let sound = sound_at schemas tables place schema table are found there in
     ap (λ k. row_at table.key_len k table.rows) same
     ∙ ap (λ n. row_at n (key_of schema row) table.rows) sound.same_key
-    ∙ sym (same_row schema (key_of schema row) table.rows)
     ∙ ap (row_of schema (key_of schema row)) (sym (rows_at tables place table there))
     ∙ sym (ap (λ (o : Option Schema). option_and_then (λ (s : Schema). row_of s (key_of s row) (table_rows (rows_of_each tables) place)) o) found)
 
