@@ -3,8 +3,8 @@ use Rattle.std.proofs.Common.{◌≡◌, ◌≢◌, ◌⊎◌, ℕ, zero, suc, �
 use Rattle.std.specs.Prelude.{slice_set, unwrap_or, option_and_then}
 use Rattle.std.specs.List.{AllByRecursion, slice_get}
 use Rattle.std.proofs.Math.ListN.{length-set}
-use Rattle.std.proofs.lemmas.Option.{slice_get_within}
-use Rattle.row_types.specs.declared.values.Value.{Value}
+use Rattle.std.proofs.lemmas.Option.{slice_get_within, slice_get-map}
+use Rattle.row_types.specs.KeyRows.{Rows, TableRows}
 use Rattle.row_types.specs.declared.digests.Digest.{Digest}
 use Rattle.row_types.specs.declared.digests.DigestKind.TheVariants.{Md5}
 use Rattle.row_types.specs.declared.table_schema.Schema.{Schema}
@@ -14,23 +14,26 @@ use Rattle.ptc_statement.specs.declared.scripts.Script.{Script}
 use Rattle.ptc_statement.specs.declared.scripts.ScriptLine.{ScriptLine}
 use Rattle.ptc_statement.specs.declared.scripts.ScriptStep.{ScriptStep}
 use Rattle.ptc_statement.specs.declared.scripts.ScriptStep.TheVariants.{Begin, Commit, Rollback, Run}
-use Rattle.ptc_statement.specs.Fits.{IsClients}
+use Rattle.ptc_statement.specs.Fits.{IsClients, IsTools}
+use Rattle.row_types.specs.Fit.{AreTables}
 use Rattle.statement_log.specs.declared.entries.Entry.{Entry}
 use Rattle.checksum_table.specs.declared.check_rows.CheckRow.{CheckRow}
 use Rattle.checksum_table.specs.declared.check_rows.CheckEntry.{CheckEntry}
 use Rattle.checksum_table.specs.declared.check_rows.Verdict.TheVariants.{Pending}
 use Rattle.checksum_table.specs.Checks.{check_at}
 use Rattle.history.specs.Replay.{Replayed, checks_after, fold, applied_of, applying, chunk_rows, source_at, replica_at, Follows}
-use Rattle.history.specs.Headline.{IsTrueMaster, MastersAreTrue, Compares, IsVerdict}
-use Rattle.history.proofs.ReplayLemmas.{fold_more, masters_more, follows_more, follows_longer_log, follows_length, applied_of-follows}
+use Rattle.history.specs.Headline.{IsTrueMaster, MastersAreTrue, IsWrittenBy, EachIsWritten, Compares, IsVerdict}
+use Rattle.history.proofs.ReplayLemmas.{fold_more, masters_more, follows_more, follows_longer_log, follows_within, clients_keep_checks}
 use Rattle.history.proofs.VerdictLemmas.{each_verdict}
 use Rattle.cluster_core.specs.Node.{NodeView, replayed_of, logged}
-use Rattle.cluster_core.specs.Sessions.{SessionView, unstarted, is_duplicate, by_session}
+use Rattle.cluster_core.specs.Sessions.{SessionView, unstarted, is_duplicate, by_session, with_refusal}
 use Rattle.cluster_core.specs.World.{WorldView, fresh, begun, session_turn, by_tool, whole_table, tool_logged, published, next_phase, tool_turn_in, next_applied, worker_turn, turn, sessions_from, workers_from, order, round, rounds, IsStill, EndsIn, move, behind_item, step, played}
 use Rattle.cluster_core.specs.declared.report_verdicts.VerdictLine.{VerdictLine}
 use Rattle.cluster_core.specs.Report.{verdict_line, all_chunks, replica_verdicts, verdicts_from, verdicts_of}
 use Rattle.cluster_core.specs.Turns.{IsNumbered, ItemIsNumbered}
-use Rattle.cluster_laws.specs.Headline.{LineHolds, IsOfWholeTable, HasLine, AppliedAll, logged_by, IsTools, IsOwnedBy, EachRefusedTruly, LoggedTruly, RunHolds}
+use Rattle.cluster_laws.specs.OwnCalls.{logged_by}
+use Rattle.cluster_laws.specs.Duplicates.{EachRefusedTruly, LoggedTruly}
+use Rattle.cluster_laws.specs.Headline.{log_of, LineHolds, IsOfWholeTable, HasLine, IsApplying, AppliedAll, IsWriter, RunHolds}
 use Rattle.workload_file.specs.Workload.{StepFits, IsWorkload}
 use Rattle.workload_file.specs.declared.workload.Workload.{Workload}
 use Rattle.workload_file.specs.declared.actors.Actor.{Actor}
@@ -42,19 +45,21 @@ use Rattle.cluster_core.specs.declared.actors.ToolPhase.TheVariants.{Clear, Chec
 use Rattle.cluster_core.proofs.EachLemmas.{each_more, each_append, each_first, each_rest, each_at, each_set, each_map, each_always, map_set_same, map_back, map_after, slice_get_none, LastFrom, last_all, last_first, last_more}
 use Rattle.cluster_core.proofs.KeptLemmas.{schedule_numbered}
 use Rattle.cluster_laws.proofs.MasterLemmas.{IsMastered, SameMasters, IsThere, same_masters, mastered_there, each_placed, mastered_known}
-use Rattle.cluster_laws.proofs.RefusalLemmas.{refused_kept, refused_begun, refused_at, refused_set, refused_done, refused_more, truly_more}
+use Rattle.cluster_laws.proofs.RefusalLemmas.{refused_kept, refused_begun, refused_at, refused_set, refused_done, refused_more, truly_more, tools_entry, truly_alone}
+use Rattle.cluster_laws.proofs.EqualLemmas.{Ended, same_is_equal}
 use Rattle.cluster_core.proofs.MoveLemmas.{did_line, line_logged, line_refused, line_done, line_done_either}
 use Rattle.cluster_laws.proofs.SessionLemmas.{EachSession, SessionHolds, next_line, logged_by_own, logged_by_other, own_number, other_number, session_logged, session_refused, sessions_begun, sessions_at, sessions_kept, sessions_set, sessions_ended}
 use Rattle.cluster_laws.proofs.TableLemmas.{IsWhole, RowsHold, no_rows, cleared_rows, checked_rows, published_rows, told_there, replica_has_line}
 
--- a replica follows the log, over the source's schemas
+-- a replica follows the log, over the source's schemas, and nobody else writes it
 pub record ReplicaHolds (schemas : List Schema) (log : List Entry) (node : NodeView) : Type 0 where
   pub schemas_are : node.schemas ≡ schemas
   pub follows : Follows log node.history
+  pub alone : AllByRecursion (λ (item : Entry). IsApplying item.origin) node.history
 
 -- each entry of a log is a session's or the tool's
-abbrev pub EachOwned : ℕ → List Entry → Type 0
-EachOwned sessions log = AllByRecursion (λ (entry : Entry). IsOwnedBy sessions entry.origin entry.statements) log
+abbrev pub EachWriter : ℕ → List Entry → Type 0
+EachWriter sessions log = AllByRecursion (λ (entry : Entry). IsWriter sessions entry.origin) log
 
 -- what holds of the world after each turn
 pub record Holds (workload : Workload) (w : WorldView) : Type 0 where
@@ -62,11 +67,12 @@ pub record Holds (workload : Workload) (w : WorldView) : Type 0 where
   pub source_start : w.source.start ≡ workload.source
   pub replica_starts : map (λ (node : NodeView). node.start) w.replicas ≡ workload.copies
   pub replicas : AllByRecursion (ReplicaHolds workload.schemas.tables w.source.history) w.replicas
-  pub masters : MastersAreTrue w.source.schemas w.source.start w.source.history
+  pub masters : MastersAreTrue w.source.schemas (log_of w.source)
   pub rows : RowsHold w.phase (length w.source.schemas) (replayed_of w.source).checks
   pub scripts : map (λ (view : SessionView). view.script) w.sessions ≡ map (λ (script : Script). script.lines) workload.sessions
   pub sessions : EachSession workload.schemas.tables w.source.history 1 w.sessions
-  pub owners : EachOwned (length w.sessions) w.source.history
+  pub writers : EachWriter (length w.sessions) w.source.history
+  pub written : EachIsWritten w.source.history
   pub refused_lines : EachRefusedTruly w.source 1 w.sessions
   pub logged_truly : LoggedTruly w.source
 
@@ -76,15 +82,16 @@ begun_holds workload is = record {
   source_start = refl;
   replica_starts = map_back (fresh workload.schemas.tables) (λ (node : NodeView). node.start) workload.copies (λ start. refl);
   replicas = each_map (fresh workload.schemas.tables) (ReplicaHolds workload.schemas.tables []) workload.copies
-      (each_always (λ (start : List (List (List Value))). ReplicaHolds workload.schemas.tables [] (fresh workload.schemas.tables start)) workload.copies
-      (λ start. record { schemas_are = refl; follows = tt }));
+      (each_always (λ (start : TableRows). ReplicaHolds workload.schemas.tables [] (fresh workload.schemas.tables start)) workload.copies
+      (λ start. record { schemas_are = refl; follows = tt; alone = tt }));
   masters = tt;
   rows = no_rows (length workload.schemas.tables);
   scripts = map_after unstarted (λ (view : SessionView). view.script) (λ (script : Script). script.lines) workload.sessions (λ script. refl);
   sessions = sessions_begun workload.schemas.tables 1 workload.sessions is.scripts;
-  owners = tt;
+  writers = tt;
+  written = tt;
   refused_lines = refused_begun (fresh workload.schemas.tables workload.source) 1 workload.sessions;
-  logged_truly = λ before session entry found by. absurd (cc);
+  logged_truly = λ before session earlier statement later found. absurd (cc);
 }
 
 -- the replicas follow a log that grew
@@ -96,13 +103,19 @@ replicas_kept schemas log entry nodes before =
     (λ node holds. record {
       schemas_are = holds.schemas_are;
       follows = follows_longer_log log (entry ∷ []) node.history holds.follows;
+      alone = holds.alone;
     })
     before
 
-owned_more : (sessions : ℕ) (log : List Entry) (entry : Entry)
-    → EachOwned sessions log → IsOwnedBy sessions entry.origin entry.statements → EachOwned sessions (log ++ entry ∷ [])
-owned_more sessions log entry before owned =
-    each_append (λ (e : Entry). IsOwnedBy sessions e.origin e.statements) log (entry ∷ []) before (owned, tt)
+writers_more : (sessions : ℕ) (log : List Entry) (entry : Entry)
+    → EachWriter sessions log → IsWriter sessions entry.origin → EachWriter sessions (log ++ entry ∷ [])
+writers_more sessions log entry before one =
+    each_append (λ (e : Entry). IsWriter sessions e.origin) log (entry ∷ []) before (one, tt)
+
+written_more : (log : List Entry) (entry : Entry)
+    → EachIsWritten log → IsWrittenBy entry.origin entry.statements → EachIsWritten (log ++ entry ∷ [])
+written_more log entry before one =
+    each_append (λ (e : Entry). IsWrittenBy e.origin e.statements) log (entry ∷ []) before (one, tt)
 
 -- the check rows of a node after the tool's statement
 logged_checks : (node : NodeView) (statement : Statement)
@@ -121,14 +134,15 @@ logged_holds workload w statement next before tools true_one rows = record {
   source_start = before.source_start;
   replica_starts = before.replica_starts;
   replicas = replicas_kept workload.schemas.tables w.source.history (by_tool statement) w.replicas before.replicas;
-  masters = masters_more w.source.schemas w.source.start w.source.history (by_tool statement) statement before.masters refl true_one;
+  masters = masters_more w.source.schemas w.source.start w.source.history (by_tool statement) before.masters (true_one, tt);
   rows = subst (RowsHold next (length w.source.schemas)) (sym (logged_checks w.source statement)) rows;
   scripts = before.scripts;
   sessions = sessions_kept workload.schemas.tables w.source.history (w.source.history ++ by_tool statement ∷ []) 1 w.sessions
       (λ session least. logged_by_other session w.source.history (by_tool statement) refl) before.sessions;
-  owners = owned_more (length w.sessions) w.source.history (by_tool statement) before.owners (tools, tt);
+  writers = writers_more (length w.sessions) w.source.history (by_tool statement) before.writers tt;
+  written = written_more w.source.history (by_tool statement) before.written (record { statement = statement; only = refl; tools = tools });
   refused_lines = refused_kept w.source (by_tool statement) 1 w.sessions before.refused_lines;
-  logged_truly = truly_more w.source (by_tool statement) (λ session by. absurd (cc)) before.logged_truly;
+  logged_truly = truly_more w.source (by_tool statement) (λ session earlier one later is. absurd (tools_entry statement session (earlier ++ one ∷ later) is)) before.logged_truly;
 }
 
 published_holds : (workload : Workload) (table : ℕ) (row : Option CheckRow) (w v : WorldView)
@@ -174,12 +188,12 @@ applied_holds_at : (schemas : List Schema) (log : List Entry) (node new : NodeVi
 applied_holds_at schemas log node new None found before is = absurd (cc)
 applied_holds_at schemas log node new (Some entry) found before is =
     let same : logged node (applying (applied_of node.history + 1) entry) ≡ new = cc in
-    let many : applied_of node.history ≡ length node.history = applied_of-follows log node.history before.follows in
-    let follows : Follows log (node.history ++ applying (applied_of node.history + 1) entry ∷ []) =
-    subst (λ n. Follows log (node.history ++ applying (n + 1) entry ∷ [])) (sym many)
-    (follows_more log node.history entry before.follows (subst (λ n. slice_get log n ≡ Some entry) many found)) in
     subst (Applies schemas log node) same (record {
-      holds = record { schemas_are = before.schemas_are; follows = follows };
+      holds = record {
+        schemas_are = before.schemas_are;
+        follows = follows_more log node.history entry before.follows found;
+        alone = each_append (λ (item : Entry). IsApplying item.origin) node.history (applying (applied_of node.history + 1) entry ∷ []) before.alone (tt, tt);
+      };
       start = refl;
     })
 
@@ -207,7 +221,8 @@ moved_holds workload w v place node (Some new) found applied before is =
       rows = before.rows;
       scripts = before.scripts;
       sessions = before.sessions;
-      owners = before.owners;
+      writers = before.writers;
+      written = before.written;
       refused_lines = before.refused_lines;
       logged_truly = before.logged_truly;
     })
@@ -229,17 +244,6 @@ seat_holds : (workload : Workload) (first : Bool) (replica : ℕ) (w v : WorldVi
 seat_holds workload true replica w v before is = worker_holds workload replica w v before is
 seat_holds workload false replica w v before is = absurd (cc)
 
--- a client's statement leaves the check rows
-client_checks : (schemas : List Schema) (position : ℕ) (statement : Statement) (here : Replayed) → IsClients statement → checks_after schemas position statement here ≡ here.checks
-client_checks schemas position (Insert table row) here client = refl
-client_checks schemas position (Replace table row) here client = refl
-client_checks schemas position (Delete table where_true) here client = refl
-client_checks schemas position (Update table sets where_true) here client = refl
-client_checks schemas position (LockRead table mode span where_true) here client = refl
-client_checks schemas position (CheckStatement table chunk span kind) here client = absurd client
-client_checks schemas position (SetMaster table chunk kind master) here client = absurd client
-client_checks schemas position (ClearChecks table) here client = absurd client
-
 client_master : (statement : Statement) (here : Replayed) → IsClients statement → IsTrueMaster statement here
 client_master (Insert table row) here client = tt
 client_master (Replace table row) here client = tt
@@ -254,7 +258,7 @@ session_checks : (node : NodeView) (session : ℕ) (statement : Statement) → I
     → (replayed_of (logged node (by_session session statement))).checks ≡ (replayed_of node).checks
 session_checks node session statement client =
     ap (λ (x : Replayed). x.checks) (fold_more node.schemas node.start node.history (by_session session statement))
-    ∙ client_checks node.schemas (length node.history + 1) statement (replayed_of node) client
+    ∙ clients_keep_checks node.schemas (length node.history + 1) (statement ∷ []) (replayed_of node) (client, tt)
 
 -- a session logged its next line
 line_logged_holds : (workload : Workload) (w : WorldView) (session : ℕ) (view : SessionView) (line : ScriptLine) (statement : Statement)
@@ -276,13 +280,13 @@ line_logged_holds workload w session view line statement from_one found at step 
     let within : session - 1 < length w.sessions = slice_get_within w.sessions (session - 1) view found in
     let many : length w.sessions ≡ length (slice_set w.sessions (session - 1) done) = sym (length-set w.sessions (session - 1) done) in
     let refused : EachRefusedTruly (logged w.source entry) 1 w.sessions = refused_kept w.source entry 1 w.sessions before.refused_lines in
-    let owned : EachOwned (length w.sessions) (log ++ entry ∷ []) = owned_more (length w.sessions) log entry before.owners (from_one, omega arith) in
+    let writers : EachWriter (length w.sessions) (log ++ entry ∷ []) = writers_more (length w.sessions) log entry before.writers (from_one, omega (arith, within, from_one)) in
     record {
       schemas = before.schemas;
       source_start = before.source_start;
       replica_starts = before.replica_starts;
       replicas = replicas_kept schemas log entry w.replicas before.replicas;
-      masters = masters_more w.source.schemas w.source.start log entry statement before.masters refl (client_master statement (replayed_of w.source) fits.0);
+      masters = masters_more w.source.schemas w.source.start log entry before.masters (client_master statement (replayed_of w.source) fits.0, tt);
       rows = subst (RowsHold w.phase (length w.source.schemas)) (sym (session_checks w.source session statement fits.0)) before.rows;
       scripts = map_set_same (λ (v : SessionView). v.script) w.sessions (session - 1) view done found refl ∙ before.scripts;
       sessions = sessions_set schemas log (log ++ entry ∷ []) 1 (session - 1) session w.sessions view done (omega arith) found
@@ -290,11 +294,12 @@ line_logged_holds workload w session view line statement from_one found at step 
           (subst (λ (entries : List (List Statement)). SessionHolds schemas entries done) own
           (session_logged schemas (logged_by session log) view line statement holds at step))
           before.sessions;
-      owners = subst (λ n. EachOwned n (log ++ entry ∷ [])) many owned;
+      writers = subst (λ n. EachWriter n (log ++ entry ∷ [])) many writers;
+      written = written_more log entry before.written (fits.0, tt);
       refused_lines = refused_set (logged w.source entry) 1 (session - 1) session w.sessions done (omega arith)
           (refused_done (logged w.source entry) session view (refused_at (logged w.source entry) 1 (session - 1) session w.sessions view (omega arith) found refused))
           refused;
-      logged_truly = truly_more w.source entry (λ number by. (new, tt)) before.logged_truly;
+      logged_truly = truly_more w.source entry (truly_alone w.source session statement new) before.logged_truly;
     }
 
 -- or it was refused
@@ -309,7 +314,7 @@ line_refused_holds : (workload : Workload) (w : WorldView) (session : ℕ) (view
 line_refused_holds workload w session view line statement from_one found at step before duplicate =
     let schemas : List Schema = workload.schemas.tables in
     let log : List Entry = w.source.history in
-    let done : SessionView = record view { next = view.next + 1; refused = view.refused ++ line.line ∷ [] } in
+    let done : SessionView = with_refusal (length log) line view in
     let holds : SessionHolds schemas (logged_by session log) view = sessions_at schemas log 1 (session - 1) session w.sessions view (omega arith) found before.sessions in
     let many : length w.sessions ≡ length (slice_set w.sessions (session - 1) done) = sym (length-set w.sessions (session - 1) done) in
     record {
@@ -322,9 +327,10 @@ line_refused_holds workload w session view line statement from_one found at step
       scripts = map_set_same (λ (v : SessionView). v.script) w.sessions (session - 1) view done found refl ∙ before.scripts;
       sessions = sessions_set schemas log log 1 (session - 1) session w.sessions view done (omega arith) found
           (λ other not. refl)
-          (session_refused schemas (logged_by session log) view line holds at)
+          (session_refused schemas (logged_by session log) view line (record { line = line.line; position = length log }) holds at refl)
           before.sessions;
-      owners = subst (λ n. EachOwned n log) many before.owners;
+      writers = subst (λ n. EachWriter n log) many before.writers;
+      written = before.written;
       refused_lines = refused_set w.source 1 (session - 1) session w.sessions done (omega arith)
           (refused_more schemas w.source session view line statement holds at step duplicate
           (refused_at w.source 1 (session - 1) session w.sessions view (omega arith) found before.refused_lines))
@@ -389,7 +395,8 @@ behind_holds workload w h = record {
   rows = h.rows;
   scripts = h.scripts;
   sessions = h.sessions;
-  owners = h.owners;
+  writers = h.writers;
+  written = h.written;
   refused_lines = h.refused_lines;
   logged_truly = h.logged_truly;
 }
@@ -463,14 +470,8 @@ replica_ended w schemas replica node found holds is =
     let next : next_applied w.source.history node ≡ None = moved_still w (replica - 1) (next_applied w.source.history node) at in
     let past : slice_get w.source.history (applied_of node.history) ≡ None = next_still w.source.history node (slice_get w.source.history (applied_of node.history)) next in
     let least : length w.source.history ≤ applied_of node.history = slice_get_none w.source.history (applied_of node.history) past in
-    let many : applied_of node.history ≡ length node.history = applied_of-follows w.source.history node.history holds.follows in
-    let most : length node.history ≤ length w.source.history = follows_length w.source.history node.history holds.follows in
-    record { follows = holds.follows; all = omega arith }
-
--- a replica at the end of a run, at its place
-pub record Ended (schemas : List Schema) (log : List Entry) (node : NodeView) : Type 0 where
-  pub schemas_are : node.schemas ≡ schemas
-  pub applied : AppliedAll log node
+    let most : applied_of node.history ≤ length w.source.history = follows_within w.source.history node.history holds.follows in
+    record { follows = holds.follows; all = omega (arith, least, most); alone = holds.alone }
 
 replicas_ended : (w : WorldView) (schemas : List Schema) (number : ℕ) (nodes : List NodeView)
     → LastFrom w.replicas number nodes
@@ -503,12 +504,12 @@ row_line_known : (w : WorldView) (number : ℕ) (node : NodeView) (entry : Check
     → node.schemas ≡ w.source.schemas
     → IsMastered row
     → IsWhole entry.chunk row
-    → IsVerdict w.source.schemas w.source.start w.source.history node.start node.history entry.table entry.chunk row
+    → IsVerdict w.source.schemas (log_of w.source) (log_of node) entry.table entry.chunk row
     → LineIsKnown w (verdict_line number entry (Some row))
 row_line_known w number node entry row from_one found same mastered whole is =
-    let source_rows : List (List Value) = chunk_rows w.source.schemas (source_at w.source.schemas w.source.start w.source.history row.position).tables entry.table row.span in
-    let compares : Compares row source_rows (chunk_rows node.schemas (replica_at node.schemas node.start node.history row.position).tables entry.table row.span) =
-    subst (λ (s : List Schema). Compares row source_rows (chunk_rows s (replica_at s node.start node.history row.position).tables entry.table row.span)) (sym same) is.compares in
+    let source_rows : Rows = chunk_rows w.source.schemas (source_at w.source.schemas (log_of w.source) row.position).tables entry.table row.span in
+    let compares : Compares row source_rows (chunk_rows node.schemas (replica_at node.schemas (log_of node) row.position).tables entry.table row.span) =
+    subst (λ (s : List Schema). Compares row source_rows (chunk_rows s (replica_at s (log_of node) row.position).tables entry.table row.span)) (sym same) is.compares in
     record {
       known = mastered_known row mastered;
       holds = record {
@@ -532,7 +533,8 @@ row_line_known w number node entry row from_one found same mastered whole is =
 
 -- what holds of the source at the end of a run
 pub record SourceEnded (w : WorldView) : Type 0 where
-  pub masters : MastersAreTrue w.source.schemas w.source.start w.source.history
+  pub written : EachIsWritten w.source.history
+  pub masters : MastersAreTrue w.source.schemas (log_of w.source)
   pub rows : RowsHold Finished (length w.source.schemas) (replayed_of w.source).checks
 
 ended_same : (w : WorldView) (node : NodeView) → Ended w.source.schemas w.source.history node → SameMasters (replayed_of w.source).checks (replayed_of node).checks
@@ -561,7 +563,7 @@ chunk_line_known w number node entry from_one found source ended there =
     subst (λ (o : Option CheckRow). LineIsKnown w (verdict_line number entry o)) (sym is.here)
     (row_line_known w number node entry row from_one found ended.schemas_are is.mastered
     (record { only_chunk = on_source.only_chunk; whole = sym is.same_span ∙ on_source.whole })
-    (each_verdict w.source.schemas w.source.start node.start w.source.history node.history source.masters ended.applied.follows entry.table entry.chunk row stands (mastered_known row is.mastered)))
+    (each_verdict w.source.schemas (log_of w.source) (log_of node) source.written source.masters ended.applied.follows entry.table entry.chunk row stands (mastered_known row is.mastered)))
 
 node_lines_known : (w : WorldView) (number : ℕ) (node : NodeView)
     → 1 ≤ number
@@ -606,14 +608,32 @@ table_has_line w replica table source ended from_one most within =
     (λ node one. told_there (check_at table 1 (replayed_of w.source).checks) (check_at table 1 (replayed_of node).checks) (ended_same w node one table 1) (source.rows.passed table within))
     ended)
 
-ended_holds : (workload : Workload) (w : WorldView) → Holds workload w → IsStill w → RunHolds workload w
-ended_holds workload w holds still =
+-- each node starts with a table for each schema
+tables_each : (schemas : List Schema) (tables : TableRows) → AreTables schemas tables → length tables ≡ length schemas
+tables_each [] [] are = refl
+tables_each [] (rows ∷ tables) are = absurd are
+tables_each (schema ∷ schemas) [] are = absurd are
+tables_each (schema ∷ schemas) (rows ∷ tables) are = ap suc (tables_each schemas tables are.1)
+
+starts_alike : (workload : Workload) (w : WorldView) → IsWorkload workload → Holds workload w
+    → (node : NodeView) (place : ℕ) → slice_get w.replicas place ≡ Some node → length w.source.start ≡ length node.start
+starts_alike workload w is holds node place found =
+    let copies : AllByRecursion (AreTables workload.schemas.tables) (map (λ (n : NodeView). n.start) w.replicas) =
+    subst (AllByRecursion (AreTables workload.schemas.tables)) (sym holds.replica_starts) is.copies in
+    let copy : slice_get (map (λ (n : NodeView). n.start) w.replicas) place ≡ Some node.start =
+    slice_get-map (λ (n : NodeView). n.start) w.replicas place ∙ ap (option_map (λ (n : NodeView). n.start)) found in
+    ap length holds.source_start
+    ∙ tables_each workload.schemas.tables workload.source is.source
+    ∙ sym (tables_each workload.schemas.tables node.start (each_at (AreTables workload.schemas.tables) (map (λ (n : NodeView). n.start) w.replicas) place node.start copies copy))
+
+ended_holds : (workload : Workload) (w : WorldView) → IsWorkload workload → Holds workload w → IsStill w → RunHolds workload w
+ended_holds workload w is holds still =
     let sessions_still : AllByRecursion (λ item. move item w ≡ None) (sessions_from 1 w.sessions) =
     each_first (λ item. move item w ≡ None) (sessions_from 1 w.sessions) (Turn Tool ∷ workers_from 1 w.replicas) still in
     let others_still : AllByRecursion (λ item. move item w ≡ None) (Turn Tool ∷ workers_from 1 w.replicas) =
     each_rest (λ item. move item w ≡ None) (sessions_from 1 w.sessions) (Turn Tool ∷ workers_from 1 w.replicas) still in
     let tool = tool_ended w.phase w holds.rows others_still.0 in
-    let source : SourceEnded w = record { masters = holds.masters; rows = tool.rows } in
+    let source : SourceEnded w = record { written = holds.written; masters = holds.masters; rows = tool.rows } in
     let replicas = replicas_ended w workload.schemas.tables 1 w.replicas (last_all w.replicas) holds.replicas others_still.1 in
     let nodes : AllByRecursion (Ended w.source.schemas w.source.history) w.replicas =
     subst (λ (s : List Schema). AllByRecursion (Ended s w.source.history) w.replicas) (sym holds.schemas) replicas in
@@ -626,7 +646,8 @@ ended_holds workload w holds still =
       masters = holds.masters;
       scripts = holds.scripts;
       own_calls = sessions_ended w workload.schemas.tables 1 w.sessions (last_all w.sessions) holds.sessions sessions_still;
-      owners = holds.owners;
+      writers = holds.writers;
+      written = holds.written;
       refused_lines = holds.refused_lines;
       logged_truly = holds.logged_truly;
       histories = each_more (Ended workload.schemas.tables w.source.history) (AppliedAll w.source.history) w.replicas (λ node ended. ended.applied) replicas;
@@ -635,9 +656,15 @@ ended_holds workload w holds still =
       verdicts = each_more (LineIsKnown w) (LineHolds w) (verdicts_of w) (λ line is. is.holds) lines;
       whole_tables = each_more (LineIsKnown w) IsOfWholeTable (verdicts_of w) (λ line is. is.whole) lines;
       each_table = λ replica table from_one most within. table_has_line w replica table source nodes from_one most within;
+      same_is_equal = same_is_equal w
+          (λ replica table from_one most within. table_has_line w replica table source nodes from_one most within)
+          (each_more (LineIsKnown w) (LineHolds w) (verdicts_of w) (λ line is. is.holds) lines)
+          (each_more (LineIsKnown w) IsOfWholeTable (verdicts_of w) (λ line is. is.whole) lines)
+          (λ node replica found. each_at (Ended w.source.schemas w.source.history) w.replicas (replica - 1) node nodes found)
+          (starts_alike workload w is holds);
     }
 
 pub each_run : (workload : Workload) (last : WorldView) → IsWorkload workload → EndsIn (begun workload) last → RunHolds workload last
 each_run workload last is ends =
     let scheduled : Holds workload (played workload.schedule (begun workload)) = played_holds workload workload.schedule (begun workload) (schedule_numbered workload is) (begun_holds workload is) in
-    ended_holds workload last (subst (Holds workload) (sym ends.reached) (rounds_hold workload ends.count (played workload.schedule (begun workload)) scheduled)) ends.still
+    ended_holds workload last is (subst (Holds workload) (sym ends.reached) (rounds_hold workload ends.count (played workload.schedule (begun workload)) scheduled)) ends.still

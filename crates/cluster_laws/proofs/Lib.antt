@@ -1,4 +1,5 @@
 pub mod EndLemmas
+pub mod EqualLemmas
 pub mod HeadlineLemmas
 pub mod MasterLemmas
 pub mod RefusalLemmas

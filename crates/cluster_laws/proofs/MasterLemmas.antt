@@ -1,25 +1,27 @@
 -- Which check rows have the source's checksum, on the source and on a replica that followed its log.
-use Rattle.std.proofs.Common.{◌≡◌, ◌≢◌, ◌⊎◌, inl, inr, ℕ, zero, suc, ◌+◌, ◌<◌, ◌≤◌, ◌==◌, ◌&&◌, Bool, true, false, cond, List, [], ◌∷◌, length, take, Option, None, Some, option_map, refl, ap, ◌∙◌, sym, subst, subst₂, arith, add-one}
+use Rattle.std.proofs.Common.{◌≡◌, ◌≢◌, ◌⊎◌, inl, inr, ℕ, ◌+◌, ◌==◌, ◌&&◌, Bool, true, false, cond, List, [], ◌∷◌, ◌++◌, length, take, append-nil, append_assoc, Option, None, Some, option_map, refl, ap, ◌∙◌, sym, subst, subst₂, arith}
 use Rattle.std.proofs.lemmas.Bool.Decides.{nat_tests}
 use Rattle.std.proofs.Math.Seq.{take-length}
 use Rattle.std.specs.List.{AllByRecursion}
 use Rattle.std.specs.Ordering.{match_ordering}
 use Rattle.std.specs.declared.cmp.Ordering.{Ordering}
 use Rattle.std.specs.declared.cmp.Ordering.TheVariants.{Less, Equal, Greater}
-use Rattle.row_types.specs.declared.values.Value.{Value}
+use Rattle.row_types.specs.KeyRows.{TableRows}
 use Rattle.row_types.specs.declared.digests.Digest.{Digest}
 use Rattle.row_types.specs.declared.edges.Span.{Span}
 use Rattle.row_types.specs.declared.table_schema.Schema.{Schema}
 use Rattle.ptc_statement.specs.declared.statements.Statement.{Statement}
 use Rattle.ptc_statement.specs.declared.statements.Statement.TheVariants.{Insert, Replace, Delete, Update, LockRead, Check as CheckStatement, SetMaster, ClearChecks}
+use Rattle.statement_log.specs.declared.origins.Origin.{Origin}
+use Rattle.statement_log.specs.declared.origins.Origin.TheVariants.{Session, Checksum, Sync, Local, Applied}
 use Rattle.statement_log.specs.declared.entries.Entry.{Entry}
 use Rattle.checksum_table.specs.declared.check_rows.CheckRow.{CheckRow}
 use Rattle.checksum_table.specs.declared.check_rows.CheckEntry.{CheckEntry}
 use Rattle.checksum_table.specs.declared.check_rows.Verdict.TheVariants.{Same, Differ, Pending}
 use Rattle.checksum_table.specs.Checks.{is_for, place_cmp, check_at, with_check, with_absent, with_master, without_table, mastered, digest_eq, verdict_against, verdict_of_row}
-use Rattle.history.specs.Replay.{Replayed, checks_after, after_statement, after_statements, fold, position_of, applying, Follows}
+use Rattle.history.specs.Replay.{Replayed, checks_after, after_statement, after_statements, fold, position_of, applied_from, applied_of, IsNextOf, FollowsFrom, Follows}
 use Rattle.checksum_table.proofs.CheckLemmas.{check_at-with_check, check_at-with_master, check_at-without_table, check_at-with_check_same, check_at-with_check_other}
-use Rattle.history.proofs.ReplayLemmas.{fold-take_more, follows_at}
+use Rattle.history.proofs.ReplayLemmas.{fold_more, fold-take_more, applied_of-more, clients_keep_checks}
 use Rattle.cluster_core.specs.Report.{all_chunks}
 use Rattle.cluster_core.proofs.EachLemmas.{each_more}
 use Rattle.cluster_core.specs.declared.actors.ToolPhase.{ToolPhase}
@@ -152,39 +154,55 @@ same_statements schemas m n [] a b before = before
 same_statements schemas m n (statement ∷ statements) a b before =
     same_statements schemas m n statements (after_statement schemas m statement a) (after_statement schemas n statement b) (same_statement schemas m n statement a b before)
 
-same_one : (schemas : List Schema) (source_start replica_start : List (List (List Value))) (log history : List Entry) (k : ℕ)
-    → Follows log history
-    → k < length history
-    → SameMasters (fold schemas source_start (take k log)).checks (fold schemas replica_start (take k history)).checks
-    → SameMasters (fold schemas source_start (take (k + 1) log)).checks (fold schemas replica_start (take (k + 1) history)).checks
-same_one schemas source_start replica_start log history k follows within before =
-    let item = follows_at log history k follows within in
-    let entry : Entry = item.0 in
+-- the next item of a replica's history
+same_next : (schemas : List Schema) (source_start replica_start : TableRows) (log front : List Entry) (item : Entry) (origin : Origin)
+    → item.origin ≡ origin
+    → IsNextOf log (applied_of front) origin item.statements
+    → SameMasters (fold schemas source_start (take (applied_of front) log)).checks (fold schemas replica_start front).checks
+    → SameMasters (fold schemas source_start (take (position_of (applied_of front) origin) log)).checks (fold schemas replica_start (front ++ item ∷ [])).checks
+same_next schemas source_start replica_start log front item (Session session) by next before = absurd next
+same_next schemas source_start replica_start log front item Checksum by next before = absurd next
+same_next schemas source_start replica_start log front item (Sync replica table span) by next before = absurd next
+same_next schemas source_start replica_start log front item (Local session) by next before =
+    subst (λ (checks : List CheckEntry). SameMasters (fold schemas source_start (take (applied_of front) log)).checks checks)
+    (sym (ap (λ (x : Replayed). x.checks) (fold_more schemas replica_start front item)
+    ∙ clients_keep_checks schemas (position_of (length front + 1) item.origin) item.statements (fold schemas replica_start front) next))
+    before
+same_next schemas source_start replica_start log front item (Applied number) by next before =
+    let entry : Entry = next.0 in
+    let done : ℕ = applied_of front in
+    let place : ℕ = position_of (length front + 1) item.origin in
     subst₂ (λ (a b : Replayed). SameMasters a.checks b.checks)
-    (sym (fold-take_more schemas source_start log k entry item.1))
-    (sym (fold-take_more schemas replica_start history k (applying (k + 1) entry) item.2))
-    (same_statements schemas (position_of (k + 1) entry.origin) (k + 1) entry.statements (fold schemas source_start (take k log)) (fold schemas replica_start (take k history)) before)
+    (sym (ap (λ n. fold schemas source_start (take n log)) next.2 ∙ fold-take_more schemas source_start log done entry next.1))
+    (sym (fold_more schemas replica_start front item ∙ ap (λ (statements : List Statement). after_statements schemas place statements (fold schemas replica_start front)) next.3))
+    (same_statements schemas (position_of (done + 1) entry.origin) place entry.statements (fold schemas source_start (take done log)) (fold schemas replica_start front) before)
 
-same_after : (schemas : List Schema) (source_start replica_start : List (List (List Value))) (log history : List Entry) (k : ℕ)
-    → Follows log history
-    → k ≤ length history
-    → SameMasters (fold schemas source_start (take k log)).checks (fold schemas replica_start (take k history)).checks
-same_after schemas source_start replica_start log history zero follows within = λ table chunk. refl
-same_after schemas source_start replica_start log history (suc k) follows within =
-    subst (λ n. SameMasters (fold schemas source_start (take n log)).checks (fold schemas replica_start (take n history)).checks) (add-one k)
-    (same_one schemas source_start replica_start log history k follows (omega arith)
-    (same_after schemas source_start replica_start log history k follows (omega arith)))
+same_on : (schemas : List Schema) (source_start replica_start : TableRows) (log front rest : List Entry)
+    → FollowsFrom log (applied_of front) rest
+    → SameMasters (fold schemas source_start (take (applied_of front) log)).checks (fold schemas replica_start front).checks
+    → SameMasters (fold schemas source_start (take (applied_from (applied_of front) rest) log)).checks (fold schemas replica_start (front ++ rest)).checks
+same_on schemas source_start replica_start log front [] follows before =
+    subst (λ (items : List Entry). SameMasters (fold schemas source_start (take (applied_of front) log)).checks (fold schemas replica_start items).checks) (sym (append-nil front)) before
+same_on schemas source_start replica_start log front (item ∷ rest) follows before =
+    let more : List Entry = front ++ item ∷ [] in
+    let number : applied_of more ≡ position_of (applied_of front) item.origin = applied_of-more front item in
+    let now : SameMasters (fold schemas source_start (take (applied_of more) log)).checks (fold schemas replica_start more).checks =
+    subst (λ n. SameMasters (fold schemas source_start (take n log)).checks (fold schemas replica_start more).checks) (sym number)
+    (same_next schemas source_start replica_start log front item item.origin refl follows.0 before) in
+    subst₂ (λ (n : ℕ) (items : List Entry). SameMasters (fold schemas source_start (take n log)).checks (fold schemas replica_start items).checks)
+    (ap (λ n. applied_from n rest) number)
+    (append_assoc front (item ∷ []) rest)
+    (same_on schemas source_start replica_start log more rest (subst (λ n. FollowsFrom log n rest) (sym number) follows.1) now)
 
 -- a replica that applied the whole log
-pub same_masters : (schemas : List Schema) (source_start replica_start : List (List (List Value))) (log history : List Entry)
+pub same_masters : (schemas : List Schema) (source_start replica_start : TableRows) (log history : List Entry)
     → Follows log history
-    → length history ≡ length log
+    → applied_of history ≡ length log
     → SameMasters (fold schemas source_start log).checks (fold schemas replica_start history).checks
 same_masters schemas source_start replica_start log history follows all =
-    let whole_log : take (length history) log ≡ log = ap (λ n. take n log) all ∙ take-length log in
-    let whole : take (length history) history ≡ history = take-length history in
-    subst₂ (λ a b. SameMasters (fold schemas source_start a).checks (fold schemas replica_start b).checks) whole_log whole
-    (same_after schemas source_start replica_start log history (length history) follows (omega arith))
+    let whole_log : take (applied_of history) log ≡ log = ap (λ n. take n log) all ∙ take-length log in
+    subst (λ (entries : List Entry). SameMasters (fold schemas source_start entries).checks (fold schemas replica_start history).checks) whole_log
+    (same_on schemas source_start replica_start log [] history follows (λ table chunk. refl))
 
 -- where all rows of the source are mastered, so is a chunk's on the replica
 abbrev pub IsThere : Option CheckRow → Type 0

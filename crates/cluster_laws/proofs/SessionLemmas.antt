@@ -1,6 +1,6 @@
 -- What a session did of its script so far, and that its entries of the log are its own calls.
 use Rattle.std.proofs.Common.{◌≡◌, ◌≢◌, ℕ, zero, suc, ◌+◌, ◌-◌, ◌<◌, ◌≤◌, ◌==◌, ◌||◌, Bool, true, false, cond, List, [], ◌∷◌, ◌++◌, length, map, Option, None, Some, refl, ap, ◌∙◌, sym, subst, arith, append_assoc, length-append}
-use Rattle.std.specs.Prelude.{slice_set, filter, option_map, option_and_then}
+use Rattle.std.specs.Prelude.{slice_set, filter, not, option_map, option_and_then, unwrap_or}
 use Rattle.std.specs.List.{AllByRecursion, slice_get}
 use Rattle.std.proofs.lemmas.List.{append-nil, map-append}
 use Rattle.std.proofs.lemmas.List.Elements.{filter-append}
@@ -10,17 +10,19 @@ use Rattle.ptc_statement.specs.declared.statements.Statement.{Statement}
 use Rattle.ptc_statement.specs.declared.scripts.Script.{Script}
 use Rattle.ptc_statement.specs.declared.scripts.ScriptLine.{ScriptLine}
 use Rattle.ptc_statement.specs.declared.scripts.ScriptStep.{ScriptStep}
-use Rattle.ptc_statement.specs.declared.scripts.ScriptStep.TheVariants.{Begin, Commit, Rollback, Run}
+use Rattle.ptc_statement.specs.declared.scripts.ScriptStep.TheVariants.{Run}
+use Rattle.ptc_statement.specs.Effect.{is_logged}
 use Rattle.statement_log.specs.declared.entries.Entry.{Entry}
 use Rattle.cluster_core.specs.Node.{NodeView}
 use Rattle.cluster_core.specs.Sessions.{SessionView, unstarted, step_left}
 use Rattle.cluster_core.specs.World.{WorldView, line_turn, sessions_from, with_session, move}
-use Rattle.cluster_laws.specs.Headline.{is_among, step_call, calls_of, is_by, logged_by, singly, OwnCalls, EachOwnCalls}
+use Rattle.cluster_core.specs.declared.refusals.Refusal.{Refusal}
+use Rattle.cluster_laws.specs.OwnCalls.{is_refused, accepted, Transaction, Transactions, no_transactions, with_statement, after_step, after_lines, logged_of, is_something, all_logged_of, calls_of, begun_in, is_by, logged_by, OwnCalls, EachOwnCalls}
 use Rattle.workload_file.specs.Workload.{StepFits, LinesRise, ScriptFits}
 use Rattle.cluster_core.proofs.EachLemmas.{each_both, each_append, each_always, LastFrom, last_first, last_more}
 
-abbrev pub NumbersBelow : ℕ → List ℕ → Type 0
-NumbersBelow bound numbers = AllByRecursion (λ number. number < bound) numbers
+abbrev pub RefusalsBelow : ℕ → List Refusal → Type 0
+RefusalsBelow bound refused = AllByRecursion (λ (refusal : Refusal). refusal.line < bound) refused
 
 abbrev pub LinesBelow : ℕ → List ScriptLine → Type 0
 LinesBelow bound lines = AllByRecursion (λ (line : ScriptLine). line.line < bound) lines
@@ -32,12 +34,13 @@ pub record SessionHolds (schemas : List Schema) (entries : List (List Statement)
   pub rest : List ScriptLine
   pub script : view.script ≡ done ++ rest
   pub counted : view.next ≡ length done
-  pub calls : entries ≡ singly (calls_of view.refused done)
+  pub calls : entries ≡ calls_of view.refused done
+  pub none_begun : (after_lines (accepted view.refused done) no_transactions).begun ≡ None
   pub fits : AllByRecursion (λ (line : ScriptLine). StepFits schemas line.step) rest
   pub rise : LinesRise rest
   pub all_rise : LinesRise view.script
   pub above_done : AllByRecursion (λ (line : ScriptLine). LinesBelow line.line done) rest
-  pub above_refused : AllByRecursion (λ (line : ScriptLine). NumbersBelow line.line view.refused) rest
+  pub above_refused : AllByRecursion (λ (line : ScriptLine). RefusalsBelow line.line view.refused) rest
 
 -- the lines that were refused
 different : (a b : ℕ) → a < b → (a == b) ≡ false
@@ -53,48 +56,59 @@ or_true : (b : Bool) → (b || true) ≡ true
 or_true true = refl
 or_true false = refl
 
-not_among : (line : ℕ) (refused : List ℕ) → NumbersBelow line refused → is_among line refused ≡ false
-not_among line [] below = refl
-not_among line (number ∷ refused) below = ap (λ b. b || is_among line refused) (different number line below.0) ∙ not_among line refused below.1
+not_refused : (refused : List Refusal) (line : ScriptLine) → RefusalsBelow line.line refused → is_refused refused line ≡ false
+not_refused [] line below = refl
+not_refused (refusal ∷ refused) line below =
+    ap (λ b. b || is_refused refused line) (different refusal.line line.line below.0) ∙ not_refused refused line below.1
 
-among_more : (line new : ℕ) (refused : List ℕ) → line < new → is_among line (refused ++ new ∷ []) ≡ is_among line refused
-among_more line new [] less = ap (λ b. b || false) (differs_from line new less)
-among_more line new (number ∷ refused) less = ap (λ b. (number == line) || b) (among_more line new refused less)
+-- a further refusal, of a later line
+refused_same : (new : Refusal) (refused : List Refusal) (line : ScriptLine) → line.line < new.line → is_refused (refused ++ new ∷ []) line ≡ is_refused refused line
+refused_same new [] line less = ap (λ b. b || false) (differs_from line.line new.line less)
+refused_same new (refusal ∷ refused) line less = ap (λ b. (refusal.line == line.line) || b) (refused_same new refused line less)
 
-now_among : (line : ℕ) (refused : List ℕ) → is_among line (refused ++ line ∷ []) ≡ true
-now_among line [] = ap (λ b. b || false) (itself line)
-now_among line (number ∷ refused) = ap (λ b. (number == line) || b) (now_among line refused) ∙ or_true (number == line)
+now_refused : (new : Refusal) (refused : List Refusal) (line : ScriptLine) → new.line ≡ line.line → is_refused (refused ++ new ∷ []) line ≡ true
+now_refused new [] line is = ap (λ n. (n == line.line) || false) is ∙ ap (λ b. b || false) (itself line.line)
+now_refused new (refusal ∷ refused) line is = ap (λ b. (refusal.line == line.line) || b) (now_refused new refused line is) ∙ or_true (refusal.line == line.line)
+
+pub accepted_same : (new : Refusal) (refused : List Refusal) (lines : List ScriptLine) → LinesBelow new.line lines → accepted (refused ++ new ∷ []) lines ≡ accepted refused lines
+accepted_same new refused [] below = refl
+accepted_same new refused (line ∷ lines) below =
+    ap (λ b. cond (not b) (line ∷ accepted (refused ++ new ∷ []) lines) (accepted (refused ++ new ∷ []) lines)) (refused_same new refused line below.0)
+    ∙ ap (λ (rest : List ScriptLine). cond (not (is_refused refused line)) (line ∷ rest) rest) (accepted_same new refused lines below.1)
+
+accepted_next : (refused : List Refusal) (lines : List ScriptLine) (line : ScriptLine) (skipped : Bool) → is_refused refused line ≡ skipped
+    → accepted refused (lines ++ line ∷ []) ≡ accepted refused lines ++ cond (not skipped) (line ∷ []) []
+accepted_next refused lines line skipped is =
+    filter-append (λ (l : ScriptLine). not (is_refused refused l)) lines (line ∷ [])
+    ∙ ap (λ b. accepted refused lines ++ cond (not b) (line ∷ []) []) is
 
 -- the calls of the lines that are done
-pub calls_same : (new : ℕ) (refused : List ℕ) (lines : List ScriptLine) → LinesBelow new lines → calls_of (refused ++ new ∷ []) lines ≡ calls_of refused lines
-calls_same new refused [] below = refl
-calls_same new refused (line ∷ lines) below =
-    ap (λ b. step_call line.step b (calls_of (refused ++ new ∷ []) lines)) (among_more line.line new refused below.0)
-    ∙ ap (step_call line.step (is_among line.line refused)) (calls_same new refused lines below.1)
+pub calls_same : (new : Refusal) (refused : List Refusal) (lines : List ScriptLine) → LinesBelow new.line lines → calls_of (refused ++ new ∷ []) lines ≡ calls_of refused lines
+calls_same new refused lines below =
+    ap (λ (ls : List ScriptLine). all_logged_of (after_lines ls no_transactions).ended) (accepted_same new refused lines below)
 
-step_call-append : (step : ScriptStep) (refused : Bool) (calls more : List Statement) → step_call step refused (calls ++ more) ≡ step_call step refused calls ++ more
-step_call-append Begin refused calls more = refl
-step_call-append Commit refused calls more = refl
-step_call-append Rollback refused calls more = refl
-step_call-append (Run statement) true calls more = refl
-step_call-append (Run statement) false calls more = refl
+pub begun_same : (new : Refusal) (refused : List Refusal) (lines : List ScriptLine) → LinesBelow new.line lines → begun_in (refused ++ new ∷ []) lines ≡ begun_in refused lines
+begun_same new refused lines below =
+    ap (λ (ls : List ScriptLine). unwrap_or (after_lines ls no_transactions).begun []) (accepted_same new refused lines below)
 
-calls_more : (refused : List ℕ) (lines : List ScriptLine) (line : ScriptLine)
-    → calls_of refused (lines ++ line ∷ []) ≡ calls_of refused lines ++ step_call line.step (is_among line.line refused) []
-calls_more refused [] line = refl
-calls_more refused (first ∷ lines) line =
-    ap (step_call first.step (is_among first.line refused)) (calls_more refused lines line)
-    ∙ step_call-append first.step (is_among first.line refused) (calls_of refused lines) (step_call line.step (is_among line.line refused) [])
+after_lines-append : (lines more : List ScriptLine) (so_far : Transactions) → after_lines (lines ++ more) so_far ≡ after_lines more (after_lines lines so_far)
+after_lines-append [] more so_far = refl
+after_lines-append (line ∷ lines) more so_far = after_lines-append lines more (after_step line.step so_far)
 
-step_logged : (step : ScriptStep) (refused : Bool) (statement : Statement) → step ≡ Run statement → refused ≡ false → step_call step refused [] ≡ statement ∷ []
-step_logged step refused statement is kept = ap (λ s. step_call s refused []) is ∙ ap (λ b. cond b [] (statement ∷ [])) kept
+-- a statement behind BEGIN and its end
+abbrev alone : Statement → Transaction
+alone statement = record { statements = statement ∷ []; rolled_back = false }
 
-step_refused : (step : ScriptStep) (refused : Bool) → refused ≡ true → step_call step refused [] ≡ []
-step_refused Begin refused is = refl
-step_refused Commit refused is = refl
-step_refused Rollback refused is = refl
-step_refused (Run statement) true is = refl
-step_refused (Run statement) false is = absurd (cc)
+run_alone : (statement : Statement) (so_far : Transactions) → so_far.begun ≡ None
+    → after_step (Run statement) so_far ≡ record { ended = so_far.ended ++ alone statement ∷ []; begun = None }
+run_alone statement so_far none = ap (with_statement statement so_far.ended) none
+
+logged_alone : (transactions : List Transaction) (statement : Statement) → is_logged statement ≡ true
+    → all_logged_of (transactions ++ alone statement ∷ []) ≡ all_logged_of transactions ++ (statement ∷ []) ∷ []
+logged_alone transactions statement logged =
+    ap (filter is_something) (map-append logged_of transactions (alone statement ∷ []))
+    ∙ filter-append is_something (map logged_of transactions) (logged_of (alone statement) ∷ [])
+    ∙ ap (λ (b : Bool). all_logged_of transactions ++ filter is_something (cond b (statement ∷ []) [] ∷ [])) logged
 
 -- the entries of a session, with one more in the log
 logged_by_next : (session : ℕ) (log : List Entry) (entry : Entry)
@@ -120,7 +134,7 @@ pub own_number : (session : ℕ) → (session == session) ≡ true
 own_number session = itself session
 
 pub other_number : (session other : ℕ) → session ≢ other → (other == session) ≡ false
-other_number session other not = grind (arith, nat_tests)
+other_number session other apart = grind (arith, nat_tests)
 
 -- a session's next line
 next_line_at : (done rest : List ScriptLine) (line : ScriptLine) → slice_get (done ++ rest) (length done) ≡ Some line → (more : List ScriptLine) × (rest ≡ line ∷ more)
@@ -139,8 +153,8 @@ pub record NextLine (schemas : List Schema) (view : SessionView) (done rest : Li
   pub more_rise : LinesRise more
   pub above_done : LinesBelow line.line done
   pub more_above_done : AllByRecursion (λ (later : ScriptLine). LinesBelow later.line done) more
-  pub above_refused : NumbersBelow line.line view.refused
-  pub more_above_refused : AllByRecursion (λ (later : ScriptLine). NumbersBelow later.line view.refused) more
+  pub above_refused : RefusalsBelow line.line view.refused
+  pub more_above_refused : AllByRecursion (λ (later : ScriptLine). RefusalsBelow later.line view.refused) more
 
 pub next_line : (schemas : List Schema) (entries : List (List Statement)) (view : SessionView) (line : ScriptLine)
     → (holds : SessionHolds schemas entries view)
@@ -154,8 +168,8 @@ next_line schemas entries view line holds at =
     let rise : LinesRise (line ∷ next.0) = subst LinesRise next.1 holds.rise in
     let above_done : AllByRecursion (λ (l : ScriptLine). LinesBelow l.line holds.done) (line ∷ next.0) =
     subst (AllByRecursion (λ (l : ScriptLine). LinesBelow l.line holds.done)) next.1 holds.above_done in
-    let above_refused : AllByRecursion (λ (l : ScriptLine). NumbersBelow l.line view.refused) (line ∷ next.0) =
-    subst (AllByRecursion (λ (l : ScriptLine). NumbersBelow l.line view.refused)) next.1 holds.above_refused in
+    let above_refused : AllByRecursion (λ (l : ScriptLine). RefusalsBelow l.line view.refused) (line ∷ next.0) =
+    subst (AllByRecursion (λ (l : ScriptLine). RefusalsBelow l.line view.refused)) next.1 holds.above_refused in
     record {
       more = next.0;
       is = next.1;
@@ -170,18 +184,20 @@ next_line schemas entries view line holds at =
     }
 
 -- a session did its next line
-session_does : (schemas : List Schema) (entries now : List (List Statement)) (view : SessionView) (refused : List ℕ) (line : ScriptLine)
+session_does : (schemas : List Schema) (entries now : List (List Statement)) (view : SessionView) (refused : List Refusal) (line : ScriptLine)
     → (holds : SessionHolds schemas entries view)
     → (next : NextLine schemas view holds.done holds.rest line)
-    → now ≡ singly (calls_of refused (holds.done ++ line ∷ []))
-    → AllByRecursion (λ (later : ScriptLine). NumbersBelow later.line refused) next.more
+    → now ≡ calls_of refused (holds.done ++ line ∷ [])
+    → (after_lines (accepted refused (holds.done ++ line ∷ [])) no_transactions).begun ≡ None
+    → AllByRecursion (λ (later : ScriptLine). RefusalsBelow later.line refused) next.more
     → SessionHolds schemas now (record view { next = view.next + 1; refused = refused })
-session_does schemas entries now view refused line holds next calls above = record {
+session_does schemas entries now view refused line holds next calls none above = record {
   done = holds.done ++ line ∷ [];
   rest = next.more;
   script = holds.script ∙ ap (λ (lines : List ScriptLine). holds.done ++ lines) next.is ∙ sym (append_assoc holds.done (line ∷ []) next.more);
   counted = ap (λ n. n + 1) holds.counted ∙ sym (length-append holds.done (line ∷ []));
   calls = calls;
+  none_begun = none;
   fits = next.more_fit;
   rise = next.more_rise;
   all_rise = holds.all_rise;
@@ -202,38 +218,44 @@ pub session_logged : (schemas : List Schema) (entries : List (List Statement)) (
     → SessionHolds schemas (entries ++ (statement ∷ []) ∷ []) (record view { next = view.next + 1 })
 session_logged schemas entries view line statement holds at step =
     let next = next_line schemas entries view line holds at in
-    let one : step_call line.step (is_among line.line view.refused) [] ≡ statement ∷ [] =
-    step_logged line.step (is_among line.line view.refused) statement step (not_among line.line view.refused next.above_refused) in
-    let calls : calls_of view.refused (holds.done ++ line ∷ []) ≡ calls_of view.refused holds.done ++ statement ∷ [] =
-    calls_more view.refused holds.done line ∙ ap (λ (more : List Statement). calls_of view.refused holds.done ++ more) one in
+    let so_far : Transactions = after_lines (accepted view.refused holds.done) no_transactions in
+    let fits : StepFits schemas (Run statement) = subst (StepFits schemas) step next.fits in
+    let lines : accepted view.refused (holds.done ++ line ∷ []) ≡ accepted view.refused holds.done ++ line ∷ [] =
+    accepted_next view.refused holds.done line false (not_refused view.refused line next.above_refused) in
+    let after : after_lines (accepted view.refused (holds.done ++ line ∷ [])) no_transactions ≡ record { ended = so_far.ended ++ alone statement ∷ []; begun = None } =
+    ap (λ (ls : List ScriptLine). after_lines ls no_transactions) lines
+    ∙ after_lines-append (accepted view.refused holds.done) (line ∷ []) no_transactions
+    ∙ ap (λ (s : ScriptStep). after_step s so_far) step
+    ∙ run_alone statement so_far holds.none_begun in
     session_does schemas entries (entries ++ (statement ∷ []) ∷ []) view view.refused line holds next
     (ap (λ (before : List (List Statement)). before ++ (statement ∷ []) ∷ []) holds.calls
-    ∙ sym (map-append (λ (s : Statement). s ∷ []) (calls_of view.refused holds.done) (statement ∷ []))
-    ∙ ap singly (sym calls))
+    ∙ sym (logged_alone so_far.ended statement fits.2)
+    ∙ sym (ap (λ (t : Transactions). all_logged_of t.ended) after))
+    (ap (λ (t : Transactions). t.begun) after)
     next.more_above_refused
 
-pub session_refused : (schemas : List Schema) (entries : List (List Statement)) (view : SessionView) (line : ScriptLine)
+pub session_refused : (schemas : List Schema) (entries : List (List Statement)) (view : SessionView) (line : ScriptLine) (new : Refusal)
     → SessionHolds schemas entries view
     → slice_get view.script view.next ≡ Some line
-    → SessionHolds schemas entries (record view { next = view.next + 1; refused = view.refused ++ line.line ∷ [] })
-session_refused schemas entries view line holds at =
+    → new.line ≡ line.line
+    → SessionHolds schemas entries (record view { next = view.next + 1; refused = view.refused ++ new ∷ [] })
+session_refused schemas entries view line new holds at numbered =
     let next = next_line schemas entries view line holds at in
-    let refused : List ℕ = view.refused ++ line.line ∷ [] in
-    let none : step_call line.step (is_among line.line refused) [] ≡ [] =
-    step_refused line.step (is_among line.line refused) (now_among line.line view.refused) in
-    let calls : calls_of refused (holds.done ++ line ∷ []) ≡ calls_of view.refused holds.done =
-    calls_more refused holds.done line
-    ∙ ap (λ (more : List Statement). calls_of refused holds.done ++ more) none
-    ∙ append-nil (calls_of refused holds.done)
-    ∙ calls_same line.line view.refused holds.done next.above_done in
+    let refused : List Refusal = view.refused ++ new ∷ [] in
+    let below : LinesBelow new.line holds.done = subst (λ n. LinesBelow n holds.done) (sym numbered) next.above_done in
+    let lines : accepted refused (holds.done ++ line ∷ []) ≡ accepted view.refused holds.done =
+    accepted_next refused holds.done line true (now_refused new view.refused line numbered)
+    ∙ append-nil (accepted refused holds.done)
+    ∙ accepted_same new view.refused holds.done below in
     session_does schemas entries entries view refused line holds next
-    (holds.calls ∙ ap singly (sym calls))
+    (holds.calls ∙ sym (ap (λ (ls : List ScriptLine). all_logged_of (after_lines ls no_transactions).ended) lines))
+    (ap (λ (ls : List ScriptLine). (after_lines ls no_transactions).begun) lines ∙ holds.none_begun)
     (each_both
-    (λ (later : ScriptLine). NumbersBelow later.line view.refused)
+    (λ (later : ScriptLine). RefusalsBelow later.line view.refused)
     (λ (later : ScriptLine). line.line < later.line)
-    (λ (later : ScriptLine). NumbersBelow later.line refused)
+    (λ (later : ScriptLine). RefusalsBelow later.line refused)
     next.more
-    (λ later below less. each_append (λ number. number < later.line) view.refused (line.line ∷ []) below (less, tt))
+    (λ later lower less. each_append (λ (refusal : Refusal). refusal.line < later.line) view.refused (new ∷ []) lower (subst (λ n. n < later.line) (sym numbered) less, tt))
     next.more_above_refused next.more_later)
 
 -- the sessions, of which the first has this number
@@ -250,11 +272,12 @@ sessions_begun schemas number (script ∷ scripts) fit = (
     script = refl;
     counted = refl;
     calls = refl;
+    none_begun = refl;
     fits = fit.0.steps;
     rise = fit.0.numbers;
     all_rise = fit.0.numbers;
     above_done = each_always (λ (line : ScriptLine). LinesBelow line.line []) script.lines (λ line. tt);
-    above_refused = each_always (λ (line : ScriptLine). NumbersBelow line.line []) script.lines (λ line. tt);
+    above_refused = each_always (λ (line : ScriptLine). RefusalsBelow line.line []) script.lines (λ line. tt);
   },
   sessions_begun schemas (number + 1) scripts fit.1,
 )
@@ -320,7 +343,7 @@ session_ended schemas log session view holds none =
     holds.script ∙ ap (λ (lines : List ScriptLine). holds.done ++ lines) (none_left holds.done holds.rest there) ∙ append-nil holds.done in
     record {
       through = holds.counted ∙ ap length (sym all);
-      calls = holds.calls ∙ ap (λ (lines : List ScriptLine). singly (calls_of view.refused lines)) (sym all);
+      calls = holds.calls ∙ ap (calls_of view.refused) (sym all);
     }
 
 no_line : (session : ℕ) (view : SessionView) (w : WorldView) (next : Option ScriptLine)

@@ -1,1 +1,3 @@
+pub mod Duplicates
 pub mod Headline
+pub mod OwnCalls
