@@ -5,7 +5,7 @@ ghost use Rattle.ordered_table.specs.TableView.{TableView};
 use crate::places::{Place, has_no_null, key_of, key_values, place_of, rows_before, rows_past};
 use crate::row_lists::{exchange, item_at, put_in};
 use crate::rows_ahead::RowsAhead;
-use row_types::{Edge, Key, Memory, Plain, R, Row, Rows, Span, Value};
+use row_types::{Edge, Items, Key, Memory, Plain, R, Row, Rows, Span, Value};
 use std::alloc::Global;
 use std::marker::Model;
 
@@ -42,6 +42,13 @@ impl Table {
             key_len,
             spare: 0,
         }
+    }
+
+    /// All rows by rising key, without a copy.
+    pub fn into_rows(self) -> Rows
+        ensures { result ≡ self.rows }
+    {
+        Items { items: self.rows }
     }
 
     /// A table of copies of these rows, which rise by key; no rows are spare.

@@ -7,7 +7,7 @@ pub mod log_laws;
 pub mod logs;
 pub mod origins;
 
-pub use entries::Entry;
+pub use entries::{Entries, Entry};
 pub use log_laws::{an_appended_entry_is_the_last, positions_run_from_one};
 pub use logs::Log;
 pub use origins::Origin;

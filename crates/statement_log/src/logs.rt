@@ -2,8 +2,8 @@ ghost use Rattle.std.specs.Prelude.{◌≡◌, ◌≤◌, ◌<◌, ◌-◌, ◌+
 ghost use Rattle.statement_log.specs.Positions.{entry_at};
 ghost use Rattle.statement_log.specs.LogView.{LogView};
 
-use crate::entries::Entry;
-use row_types::{Memory, R};
+use crate::entries::{Entries, Entry};
+use row_types::{Items, Memory, R};
 use std::alloc::Global;
 use std::marker::Model;
 
@@ -60,6 +60,15 @@ impl Log {
         ensures { result.now ≡ self.now.entries }
     {
         self.entries.as_slice()
+    }
+
+    /// All entries, in order, without a copy.
+    pub fn into_entries(self) -> Entries
+        ensures { result ≡ self.entries }
+    {
+        Items {
+            items: self.entries,
+        }
     }
 
     /// The entry at a position; none at 0 and past the last.

@@ -112,7 +112,7 @@ impl<'a> Writer<'a> {
     fn push_chunk(&mut self, table: u32, chunk: u32) -> R<()>
         ensures { OnOk result (Appended (chunk_text self.old.schemas table chunk) self.old self.new) }
     {
-        self.push_name(table)?;
+        self.push_name(table as usize)?;
         self.push_bytes(b" CHUNK ")?;
         self.push_number(chunk as u64)
     }
@@ -154,24 +154,24 @@ impl<'a> Writer<'a> {
         match statement {
             Statement::Insert { table, row } => {
                 self.push_insert_word()?;
-                self.push_name(*table)?;
+                self.push_name(*table as usize)?;
                 self.push_bytes(b" VALUES ")?;
                 self.push_tuple(row.as_slice())
             }
             Statement::Replace { table, row } => {
                 self.push_replace_word()?;
-                self.push_name(*table)?;
+                self.push_name(*table as usize)?;
                 self.push_bytes(b" VALUES ")?;
                 self.push_tuple(row.as_slice())
             }
             Statement::Delete { table, cond } => {
                 self.push_delete_word()?;
-                self.push_name(*table)?;
+                self.push_name(*table as usize)?;
                 self.push_where(*table, cond)
             }
             Statement::Update { table, sets, cond } => {
                 self.push_bytes(b"UPDATE ")?;
-                self.push_name(*table)?;
+                self.push_name(*table as usize)?;
                 self.push_bytes(b" SET ")?;
                 self.push_assignments(*table, sets.as_slice())?;
                 self.push_where(*table, cond)
@@ -183,7 +183,7 @@ impl<'a> Writer<'a> {
                 ..
             } => {
                 self.push_select_word()?;
-                self.push_name(*table)?;
+                self.push_name(*table as usize)?;
                 self.push_where(*table, cond)?;
                 self.push_lock(*mode)
             }
@@ -209,7 +209,7 @@ impl<'a> Writer<'a> {
             }
             Statement::ClearChecks { table } => {
                 self.push_clear_word()?;
-                self.push_name(*table)
+                self.push_name(*table as usize)
             }
         }
     }

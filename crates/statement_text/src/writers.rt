@@ -92,10 +92,10 @@ impl<'a> Writer<'a> {
     }
 
     /// Appends the name of the table of this number; nothing where there is no such table.
-    pub fn push_name(&mut self, table: u32) -> R<()>
+    pub fn push_name(&mut self, table: usize) -> R<()>
         ensures { OnOk result (Appended (name_of self.old.schemas table) self.old self.new) }
     {
         let schemas = self.schemas;
-        self.push_bytes(name_in(schemas, table as usize))
+        self.push_bytes(name_in(schemas, table))
     }
 }

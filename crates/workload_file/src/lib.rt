@@ -2,9 +2,9 @@
 //! `ptc_run` as yet.
 #![tactic(auto)]
 
-pub mod actors;
-pub mod schedule;
-pub mod workload;
+mod actors;
+mod schedule;
+mod workload;
 
 pub use actors::Actor;
 pub use schedule::{Item, Schedule};
