@@ -226,12 +226,6 @@ start_at schemas all start starts place schema rows same same_start each are wit
     ap (λ (ts : List (List (List Value))). slice_get ts place) (sym same_start) ∙ slice_get-within starts place rows (omega arith) ∙ ap (λ (r : List (List Value)). Some r) (sym rows_are) in
     start_sound schemas start place schema rows each are found found_rows
 
-pub take_whole : {A : Type 0} (xs : List A) (n : ℕ) → length xs ≤ n → take n xs ≡ xs
-take_whole [] zero all = refl
-take_whole [] (suc n) all = refl
-take_whole (x ∷ xs) zero all = absurd (omega arith)
-take_whole (x ∷ xs) (suc n) all = ap (λ ys. x ∷ ys) (take_whole xs n (omega arith))
-
 -- copies of tables have their rows, and are as sound
 pub copied_rows : (tables : List TableView) → rows_of_each (map without_spare tables) ≡ rows_of_each tables
 copied_rows [] = refl

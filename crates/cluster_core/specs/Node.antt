@@ -1,6 +1,6 @@
 -- A node: its schemas, what it began with, and its history.
 use Rattle.std.specs.Prelude.{ℕ, List, [], ◌∷◌, ◌++◌, Option}
-use Rattle.row_types.specs.declared.values.Value.{Value}
+use Rattle.row_types.specs.KeyRows.{Row, TableRows}
 use Rattle.row_types.specs.declared.table_schema.Schema.{Schema}
 use Rattle.statement_log.specs.declared.entries.Entry.{Entry}
 use Rattle.ptc_statement.specs.declared.statements.Statement.{Statement}
@@ -9,7 +9,7 @@ use Rattle.cluster_core.specs.LiveTables.{row_in}
 
 pub record NodeView : Type 0 where
   pub schemas : List Schema
-  pub start : List (List (List Value))
+  pub start : TableRows
   pub history : List Entry
 
 -- its tables and check rows: the replay of its history
@@ -21,7 +21,7 @@ abbrev pub logged : NodeView → Entry → NodeView
 logged node entry = record node { history = node.history ++ entry ∷ [] }
 
 -- the row that a node has at a key of a table
-abbrev pub row_on : NodeView → ℕ → List Value → Option (List Value)
+abbrev pub row_on : NodeView → ℕ → Row → Option Row
 row_on node table row = row_in node.schemas (replayed_of node).tables table row
 
 -- what a node has at a point of its history: the rows of each table, and the check rows

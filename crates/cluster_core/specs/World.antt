@@ -1,7 +1,7 @@
 -- The world of a run, the turns of its actors, the schedule and the rounds.
 use Rattle.std.specs.Prelude.{ℕ, ◌≡◌, ◌+◌, ◌-◌, ◌==◌, suc, zero, nat_lt, cond, ◌++◌, option_map, List, [], ◌∷◌, Option, None, Some, length, drop, map, slice_set, unwrap_or, option_and_then}
 use Rattle.std.specs.List.{slice_get, AllByRecursion}
-use Rattle.row_types.specs.declared.values.Value.{Value}
+use Rattle.row_types.specs.KeyRows.{TableRows}
 use Rattle.row_types.specs.declared.edges.Edge.TheVariants.{Low, High}
 use Rattle.row_types.specs.declared.edges.Span.{Span}
 use Rattle.row_types.specs.declared.digests.DigestKind.TheVariants.{Md5}
@@ -33,7 +33,7 @@ pub record WorldView : Type 0 where
   pub unplayed : List Item
 
 -- a node before anything happened
-abbrev pub fresh : List Schema → List (List (List Value)) → NodeView
+abbrev pub fresh : List Schema → TableRows → NodeView
 fresh schemas start = record { schemas = schemas; start = start; history = [] }
 
 -- the world of a workload before anything happened

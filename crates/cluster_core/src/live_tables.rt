@@ -124,7 +124,7 @@ fn tables_of(alloc: Global, schemas: &SchemaList, start: &Tables) -> R<Vec<Table
     ensures sound { IfOk result (λ tables. AreSound schemas.now tables.items) }
 {
     let (schemas, start) = (schemas.as_slice(), start.as_slice());
-    let mut tables = Vec::new(alloc);
+    let mut tables = Vec::with_capacity(alloc, schemas.len())?;
     for place in 0..schemas.len() {
         let rows = start[place].as_slice();
         tables.push(Table::from_rows(alloc, schemas[place].key_len, rows)?)?;
@@ -136,7 +136,7 @@ fn tables_of(alloc: Global, schemas: &SchemaList, start: &Tables) -> R<Vec<Table
 fn table_copies(alloc: Global, tables: &[Table]) -> R<Vec<Table>>
     ensures { IfOk result (λ copies. copies.items ≡ map without_spare tables.now) }
 {
-    let mut copies = Vec::new(alloc);
+    let mut copies = Vec::with_capacity(alloc, tables.len())?;
     for table in tables {
         copies.push(table.copy(alloc)?)?;
     }

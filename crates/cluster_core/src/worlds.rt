@@ -396,7 +396,7 @@ fn fresh_nodes(alloc: Global, schemas: &Schemas, mut copies: Vec<Tables>) -> R<V
     requires copies { AllByRecursion (AreTables schemas.now.tables) copies.items }
     ensures { IfOk result (λ nodes. nodes.items ≡ map (fresh schemas.now.tables) copies.items) }
 {
-    let mut nodes = Vec::new(alloc);
+    let mut nodes = Vec::with_capacity(alloc, copies.len())?;
     while !copies.is_empty() {
         let start = copies.remove(0);
         nodes.push(Node::new(alloc, schemas.copy(alloc)?, start)?)?;
@@ -408,7 +408,7 @@ fn fresh_nodes(alloc: Global, schemas: &Schemas, mut copies: Vec<Tables>) -> R<V
 fn fresh_sessions(alloc: Global, mut scripts: Vec<Script>) -> R<Vec<Session>>
     ensures { IfOk result (λ sessions. sessions.items ≡ map unstarted scripts.items) }
 {
-    let mut sessions = Vec::new(alloc);
+    let mut sessions = Vec::with_capacity(alloc, scripts.len())?;
     while !scripts.is_empty() {
         let script = scripts.remove(0);
         sessions.push(Session::new(alloc, script))?;

@@ -1,5 +1,6 @@
 use Rattle.std.proofs.Common.{◌≡◌, ◌≤◌, ◌+◌, ◌∷◌, [], ◌++◌, ◌∙◌, suc, sym, ap, subst, arith, length, take, List, Some}
 use Rattle.std.specs.List.{slice_get}
+use Rattle.std.proofs.lemmas.List.{take_all}
 use Rattle.row_types.specs.declared.values.Value.{Value}
 use Rattle.row_types.specs.declared.table_schema.Schema.{Schema}
 use Rattle.ordered_table.specs.KeyRows.{AreOrdered}
@@ -9,7 +10,7 @@ use Rattle.table_changes.specs.Plans.{IsSound}
 use Rattle.cluster_core.specs.LiveTables.{rows_of_each}
 use Rattle.cluster_core.specs.LiveParts.{AreSound}
 use Rattle.cluster_core.proofs.MoveLemmas.{slice_get-within}
-use Rattle.cluster_core.proofs.LiveLemmas.{rows_more, sound_more, start_at, start_many, take_whole}
+use Rattle.cluster_core.proofs.LiveLemmas.{rows_more, sound_more, start_at, start_many}
 use Rattle.cluster_core.proofs.live_tables.tables_of.Goals as goal
 
 pub bounds-start-place : goal.bounds-start-place
@@ -62,4 +63,4 @@ returns-clause-rows c =
     let theirs = ap length c.as_slice-schemas.ensures in
     let many = start_many c.args.schemas.now c.args.start.now c.requires.start in
     let all : length c.as_slice-start.result.now ≤ c.loop-place.place = omega arith in
-    c.loop-place.invariant.rows ∙ take_whole c.as_slice-start.result.now c.loop-place.place all ∙ c.as_slice-start.ensures
+    c.loop-place.invariant.rows ∙ take_all c.loop-place.place c.as_slice-start.result.now all ∙ c.as_slice-start.ensures
