@@ -1,7 +1,25 @@
 //! Copies: each is the same as what it was made from, and not the same as another.
-use crate::{RunReport, VerdictLine};
+use crate::{RunReport, ToolPhase, VerdictLine};
 use checksum_table::Verdict;
 use row_types::{Bytes, Span};
+
+const PHASES: [ToolPhase; 4] = [
+    ToolPhase::Clear { table: 1 },
+    ToolPhase::Check { table: 1 },
+    ToolPhase::Master { table: 2 },
+    ToolPhase::Finished,
+];
+
+#[test]
+fn phases_are_copied(rt: HostRuntime) {
+    let alloc = rt.alloc();
+    for i in 0..4 {
+        for j in 0..4 {
+            let phase = PHASES[i].copy(alloc).expect(&rt, "memory");
+            assert!(rt; phase.same(&PHASES[j]) == (i == j));
+        }
+    }
+}
 
 fn verdict_line(position: u64) -> VerdictLine {
     VerdictLine {
