@@ -165,7 +165,7 @@ turned false true e = refl
 turned false false e = cc
 
 -- a key is before an edge, or past it
-before_is : (edge : Edge) (key : List Value) → is_before_edge edge key ≡ not (is_past_edge edge key)
+pub before_is : (edge : Edge) (key : List Value) → is_before_edge edge key ≡ not (is_past_edge edge key)
 before_is edge key = turned (is_past_edge edge key) (is_before_edge edge key) (past_or_before edge key)
 
 -- the rows past an edge are those from its place on

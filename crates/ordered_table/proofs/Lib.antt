@@ -5,4 +5,8 @@ pub mod LawLemmas
 pub mod NeighbourLemmas
 pub mod SchemaLemmas
 pub mod SameLemmas
+pub mod SizeLemmas
+pub mod PageOfLemmas
+pub mod SearchLemmas
 pub mod ChangeLemmas
+pub mod AheadLemmas

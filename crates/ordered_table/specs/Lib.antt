@@ -2,4 +2,12 @@ pub mod KeyRows
 pub mod Places
 pub mod Neighbours
 pub mod TableView
+pub mod Pages
+pub mod Room
+pub mod PageOf
+pub mod PageParts
+pub mod StoreView
+pub mod StoreParts
+pub mod Parts
+pub mod AheadParts
 pub mod TableParts

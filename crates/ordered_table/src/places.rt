@@ -86,7 +86,7 @@ fn first_past(rows: &[Row], key_len: u8, key: &[Value], strictly: bool) -> usize
 }
 
 /// Whether a row's key is past this one, or at it unless only later keys count.
-fn is_behind(row: &Row, key_len: u8, key: &[Value], strictly: bool) -> bool
+pub(crate) fn is_behind(row: &Row, key_len: u8, key: &[Value], strictly: bool) -> bool
     ensures { result ≡ is_past strictly key.now (take key_len row.now) }
 {
     let ordering = compare_values(key, key_values(row, key_len));

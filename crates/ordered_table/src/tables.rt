@@ -1,11 +1,14 @@
-ghost use Rattle.std.specs.Prelude.{◌≡◌, ◌≤◌, ◌<◌, ◌-◌, ◌^◌, ◌↔◌, [], length, take, slice_get, option_copied, is_some, if◌then◌else◌, None, IsTrue, IfOk, IfErr, OnOk, OnErr};
-ghost use Rattle.row_types.specs.KeyRows.{HasKey, AreOrdered, row_at, put_row, without_key, rows_in, rows_past, rows_before, row_past, least_past, nth_past, greatest_before};
+ghost use Rattle.std.specs.Prelude.{◌≡◌, ◌≤◌, ◌<◌, ◌+◌, ◌-◌, ◌^◌, ◌++◌, ◌∷◌, ◌↔◌, [], length, take, option_copied, is_some, if◌then◌else◌, None, IsTrue, IfOk, IfErr, OnOk, OnErr};
+ghost use Rattle.row_types.specs.KeyRows.{HasKey, AreOrdered, row_at, put_row, without_key, rows_in, rows_past, row_past, least_past, nth_past, greatest_before};
 ghost use Rattle.ordered_table.specs.TableView.{TableView};
+ghost use Rattle.ordered_table.specs.Room.{HasRoom};
 
-use crate::places::{Place, has_no_null, key_of, key_values, place_of, rows_before, rows_past};
-use crate::row_lists::{exchange, item_at, put_in};
+use crate::edge_search::{all_rows, row_before, rows_between, rows_from};
+use crate::key_places::{put_into, row_of, take_from};
+use crate::places::{has_no_null, key_of, key_values};
 use crate::rows_ahead::RowsAhead;
-use row_types::{Edge, Items, Key, Memory, Plain, R, Row, Rows, Span, Value};
+use crate::store::Store;
+use row_types::{Edge, Key, Memory, R, Row, Rows, Span, Value};
 use std::alloc::Global;
 use std::marker::Model;
 
@@ -13,8 +16,9 @@ use std::marker::Model;
 /// A number of further rows, spare, can be put back without memory.
 #[derive(Debug, Drop)]
 pub struct Table {
-    rows: Vec<Row>,
+    store: Store,
     key_len: u8,
+    count: u64,
     spare: u64,
 }
 
@@ -38,17 +42,20 @@ impl Table {
         ensures { result ≡ record { key_len = key_len; rows = []; spare = 0 } }
     {
         Table {
-            rows: Vec::new(alloc),
+            store: Store::new(alloc),
             key_len,
+            count: 0,
             spare: 0,
         }
     }
 
-    /// All rows by rising key, without a copy.
-    pub fn into_rows(self) -> Rows
-        ensures { result ≡ self.rows }
+    /// All rows by rising key, in one list, which alone takes memory: no row is copied.
+    pub fn into_rows(self, alloc: Global) -> R<Rows>
+        ensures { IfOk result (λ rows. rows ≡ self.rows) }
     {
-        Items { items: self.rows }
+        let count = self.count as usize;
+        let rows = self.store.into_rows(alloc, count)?;
+        Ok(rows)
     }
 
     /// A table of copies of these rows, which rise by key; no rows are spare.
@@ -58,11 +65,14 @@ impl Table {
         requires ordered { AreOrdered key_len rows.now }
         ensures { IfOk result (λ table. table ≡ record { key_len = key_len; rows = rows.now; spare = 0 }) }
     {
-        Ok(Table {
-            rows: Row::copies(alloc, rows)?,
-            key_len,
-            spare: 0,
-        })
+        let mut table = Table::new(alloc, key_len);
+        let mut rest = rows;
+        while let Some((row, more)) = rest.split_first() {
+            put_last(&mut table, row.copy(alloc)?)?;
+            rest = more;
+        }
+        table.spare = 0;
+        Ok(table)
     }
 
     /// A table of the same rows; none are spare.
@@ -70,8 +80,9 @@ impl Table {
         ensures { IfOk result (λ copy. copy ≡ record self.now { spare = 0 }) }
     {
         Ok(Table {
-            rows: Row::copies(alloc, self.rows.as_slice())?,
+            store: self.store.copy(alloc)?,
             key_len: self.key_len,
+            count: self.count,
             spare: 0,
         })
     }
@@ -91,13 +102,13 @@ impl Table {
         ensures bound { result < 2 ^ 63 }
         ensures ordered { AreOrdered self.now.key_len self.now.rows }
     {
-        self.rows.len()
+        self.count as usize
     }
 
     pub fn is_empty(&self) -> bool
         ensures { IsTrue result ↔ (self.now.rows ≡ []) }
     {
-        self.rows.is_empty()
+        self.count == 0
     }
 
     /// How many rows can be put back without memory.
@@ -125,10 +136,7 @@ impl Table {
     pub fn get_at(&self, key: &[Value]) -> Option<&Row>
         ensures { option_copied result ≡ row_at self.now.key_len key.now self.now.rows }
     {
-        match place_of(self.rows.as_slice(), self.key_len, key) {
-            Place::Taken(index) => Some(&self.rows[index]),
-            Place::Free(_) => None,
-        }
+        row_of(self.store.pages(), self.key_len, key)
     }
 
     /// The row of the least key past the edge, none where no key is past it.
@@ -136,7 +144,7 @@ impl Table {
         ensures value { option_copied result ≡ row_past self.now.key_len edge.now self.now.rows }
         ensures ordered { AreOrdered self.now.key_len self.now.rows }
     {
-        self.past(edge).first()
+        self.past(edge).get(0)
     }
 
     /// The values of the least key past the edge, none where no key is past it.
@@ -153,7 +161,10 @@ impl Table {
         ensures value { option_copied result ≡ greatest_before self.now.key_len edge.now self.now.rows }
         ensures ordered { AreOrdered self.now.key_len self.now.rows }
     {
-        key_of(self.before(edge).last(), self.key_len)
+        key_of(
+            row_before(self.store.pages(), self.key_len, edge),
+            self.key_len,
+        )
     }
 
     /// The values of the n-th key past the edge, counted from 1; none where fewer keys are past it. For
@@ -163,7 +174,7 @@ impl Table {
         ensures value { option_copied result ≡ nth_past self.now.key_len edge.now n self.now.rows }
         ensures ordered { AreOrdered self.now.key_len self.now.rows }
     {
-        key_of(item_at(self.past(edge), n - 1), self.key_len)
+        key_of(self.past(edge).get(n - 1), self.key_len)
     }
 
     /// Copies of the rows whose keys are in the span, by rising key.
@@ -171,20 +182,16 @@ impl Table {
         ensures value { IfOk result (λ rows. rows ≡ rows_in self.now.key_len span.now self.now.rows) }
         ensures ordered { AreOrdered self.now.key_len self.now.rows }
     {
-        Ok(Rows {
-            items: Row::copies(alloc, self.each(span).rows)?,
-        })
+        let rows = self.each(span).copies(alloc)?;
+        Ok(rows)
     }
 
     /// The rows whose keys are in the span, to be gone over by rising key.
-    #[tactic(auto, using(crate::proofs::CutLemmas::span_is))]
     pub fn each(&self, span: &Span) -> RowsAhead<'_>
         ensures value { result ≡ rows_in self.now.key_len span.now self.now.rows }
         ensures ordered { AreOrdered self.now.key_len self.now.rows }
     {
-        RowsAhead {
-            rows: rows_past(self.before(&span.hi), self.key_len, &span.lo),
-        }
+        rows_between(self.store.pages(), self.key_len, span)
     }
 
     /// All rows, to be gone over by rising key.
@@ -192,33 +199,22 @@ impl Table {
         ensures value { result ≡ self.now.rows }
         ensures ordered { AreOrdered self.now.key_len self.now.rows }
     {
-        RowsAhead {
-            rows: self.rows.as_slice(),
-        }
+        all_rows(self.store.pages())
     }
 
     /// Whether another table has the same rows.
     pub fn same_rows(&self, other: &Table) -> bool
         ensures { IsTrue result ↔ (self.now.rows ≡ other.now.rows) }
     {
-        Row::all_same(self.rows.as_slice(), other.rows.as_slice())
+        self.all().same(other.all())
     }
 
     /// The rows whose keys are past the edge.
-    fn past(&self, edge: &Edge) -> &[Row]
-        ensures value { result.now ≡ rows_past self.now.key_len edge.now self.now.rows }
+    fn past(&self, edge: &Edge) -> RowsAhead<'_>
+        ensures value { result ≡ rows_past self.now.key_len edge.now self.now.rows }
         ensures ordered { AreOrdered self.now.key_len self.now.rows }
     {
-        rows_past(self.rows.as_slice(), self.key_len, edge)
-    }
-
-    /// The rows whose keys are before the edge.
-    #[tactic(auto, using(row_types::proofs::OrderedRowLemmas::filter_ordered))]
-    fn before(&self, edge: &Edge) -> &[Row]
-        ensures rows { result.now ≡ rows_before self.now.key_len edge.now self.now.rows }
-        ensures ordered { AreOrdered self.now.key_len result.now }
-    {
-        rows_before(self.rows.as_slice(), self.key_len, edge)
+        rows_from(self.store.pages(), self.key_len, edge)
     }
 
     /// Puts a row at its key and hands back the row that it replaced. Only a row at an absent key wants
@@ -233,20 +229,13 @@ impl Table {
         ensures key_len { self.new.key_len ≡ self.old.key_len }
         ensures spare { self.old.spare ≤ self.new.spare }
     {
-        match place_of(
-            self.rows.as_slice(),
-            self.key_len,
-            key_values(&row, self.key_len),
-        ) {
-            Place::Taken(index) => Ok(Some(exchange(&mut self.rows, index, row))),
-            Place::Free(index) => {
-                let Ok(()) = self.rows.reserve(self.spare as usize + 1) else {
-                    return Err((row, Memory));
-                };
-                put_in(&mut self.rows, index, row);
-                Ok(None)
-            }
+        if self.get_at(key_values(&row, self.key_len)).is_some() {
+            return Ok(self.put_back(row));
         }
+        let Ok(()) = self.reserve(self.spare + 1) else {
+            return Err((row, Memory));
+        };
+        Ok(self.put_back(row))
     }
 
     /// Takes the row at a key away and hands it back, if there is one.
@@ -256,10 +245,11 @@ impl Table {
         ensures key_len { self.new.key_len ≡ self.old.key_len }
         ensures spare { self.old.spare ≤ self.new.spare }
     {
-        match place_of(self.rows.as_slice(), self.key_len, key.as_slice()) {
-            Place::Taken(index) => Some(self.rows.remove(index)),
-            Place::Free(_) => None,
+        let removed = take_from(&mut self.store, self.key_len, key.as_slice());
+        if removed.is_some() {
+            self.count -= 1;
         }
+        removed
     }
 
     /// Makes at least this number of rows spare; the table's own stay. A refusal lowers nothing, and comes
@@ -274,7 +264,10 @@ impl Table {
         if rows <= self.spare {
             return Ok(());
         }
-        self.rows.reserve(rows as usize)?;
+        if rows >= 4611686018427387904 - self.count {
+            return Err(Memory);
+        }
+        make_room(&mut self.store, self.count, rows)?;
         self.spare = rows;
         Ok(())
     }
@@ -289,17 +282,49 @@ impl Table {
         ensures key_len { self.new.key_len ≡ self.old.key_len }
         ensures spare { self.new.spare ≡ (if is_some result then self.old.spare else self.old.spare - 1) }
     {
-        match place_of(
-            self.rows.as_slice(),
-            self.key_len,
-            key_values(&row, self.key_len),
-        ) {
-            Place::Taken(index) => Some(exchange(&mut self.rows, index, row)),
-            Place::Free(index) => {
-                put_in(&mut self.rows, index, row);
-                self.spare -= 1;
-                None
-            }
+        let replaced = put_into(&mut self.store, self.key_len, row);
+        if replaced.is_none() {
+            self.count += 1;
+            self.spare -= 1;
         }
+        replaced
     }
+}
+
+/// Puts a row after all others.
+fn put_last(table: &mut Table, row: Row) -> R<()>
+    requires { AreOrdered table.old.key_len (table.old.rows ++ row ∷ []) }
+    ensures rows { OnOk result (table.new.rows ≡ table.old.rows ++ row ∷ []) }
+    ensures key_len { table.new.key_len ≡ table.old.key_len }
+{
+    match table.put(row) {
+        Ok(_) => Ok(()),
+        Err((_, memory)) => Err(memory),
+    }
+}
+
+/// Whether so many rows can be put back without memory.
+fn has_room(store: &Store, count: u64, spare: u64) -> bool
+    requires { count + spare < 2 ^ 62 }
+    ensures { IsTrue result ↔ HasRoom count spare (length store.now.pages) store.now.empties }
+{
+    let empties = store.empties() as u64;
+    if spare <= empties {
+        return true;
+    }
+    let pages = store.pages().len() as u64;
+    (2 * (count + spare) + 127) / 65 <= pages + empties
+}
+
+/// Takes as many empty pages as so many spare rows need.
+fn make_room(store: &mut Store, count: u64, spare: u64) -> R<()>
+    requires { count + spare < 2 ^ 62 }
+    ensures ok { OnOk result (HasRoom count spare (length store.new.pages) store.new.empties) }
+    ensures pages { store.new.pages ≡ store.old.pages }
+    ensures more { store.old.empties ≤ store.new.empties }
+{
+    while !has_room(store, count, spare) {
+        store.grow()?;
+    }
+    Ok(())
 }
