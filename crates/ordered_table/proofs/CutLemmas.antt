@@ -1,7 +1,9 @@
 -- The place of a key or an edge among rows that rise by key.
-use Rattle.std.proofs.Common.{◌≡◌, ◌∙◌, ℕ, zero, suc, ◌+◌, ◌<◌, ◌≤◌, Bool, true, false, not, cond, List, [], ◌∷◌, length, take, drop, refl, ap, sym, arith}
+use Rattle.std.proofs.Common.{◌≡◌, ◌∙◌, ℕ, zero, suc, ◌<◌, ◌≤◌, Bool, true, false, not, cond, List, [], ◌∷◌, length, take, drop, get_or, refl, ap, sym, arith}
 use Rattle.std.specs.Prelude.{slice_index_or, filter, ◌&&◌}
 use Rattle.std.specs.List.{AllByRecursion}
+use Rattle.std.specs.List.Sorted.{IsPartitionedBy, IsPartitionPoint}
+use Rattle.std.proofs.lemmas.List.{get_or_default}
 use Rattle.std.specs.Ordering.{is_le, is_lt, ordering_then}
 use Rattle.std.specs.declared.cmp.Ordering.{Ordering}
 use Rattle.std.specs.declared.cmp.Ordering.TheVariants.{Less, Equal, Greater}
@@ -50,61 +52,32 @@ past_before : (key_len : ℕ) (strictly : Bool) (key : List Value) (rows : List 
 past_before key_len strictly key rows j k ordered le within past =
     not_true (is_past strictly key (key_at key_len rows j)) (λ h. sym past ∙ past_behind key_len strictly key rows j k ordered le within h)
 
--- what is known of a place that lies between two numbers
-pub record IsNarrowed (key_len : ℕ) (test : List Value → Bool) (rows : List (List Value)) (low high : ℕ) : Type 0 where
-  pub ordered : low ≤ high
-  pub within : high ≤ length rows
-  pub before : (k : ℕ) → k < low → test (key_at key_len rows k) ≡ false
-  pub behind : (k : ℕ) → high ≤ k → k < length rows → test (key_at key_len rows k) ≡ true
+turned_back : (b : Bool) → not b ≡ true → b ≡ false
+turned_back true e = cc
+turned_back false e = refl
 
-pub narrowed_start : (key_len : ℕ) (test : List Value → Bool) (rows : List (List Value)) → IsNarrowed key_len test rows 0 (length rows)
-narrowed_start key_len test rows = record {
-  ordered = omega arith;
-  within = omega arith;
-  before = λ k h. absurd (omega arith);
-  behind = λ k h w. absurd (omega arith);
+turned_true : (b : Bool) → not b ≡ false → b ≡ true
+turned_true true e = refl
+turned_true false e = cc
+
+-- rows whose keys are not past a key stand before those whose keys are
+pub not_past_parted : (key_len : ℕ) (strictly : Bool) (key : List Value) (rows : List (List Value)) → AreOrdered key_len rows
+    → IsPartitionedBy (λ (row : List Value). not (is_past strictly key (take key_len row))) rows
+not_past_parted key_len strictly key rows ordered i j d le within e =
+    let at_j : is_past strictly key (key_at key_len rows j) ≡ false =
+    ap (λ (row : List Value). is_past strictly key (take key_len row)) (get_or_default rows j [] d within) ∙ turned_back (is_past strictly key (take key_len (get_or rows j d))) e in
+    ap (λ (row : List Value). not (is_past strictly key (take key_len row))) (get_or_default rows i d [] (omega arith))
+    ∙ ap not (past_before key_len strictly key rows i j ordered le within at_j)
+
+-- the place between them cuts the rows
+pub cut_at_point : (key_len : ℕ) (strictly : Bool) (key : List Value) (rows : List (List Value)) (place : ℕ) → place ≤ length rows
+    → IsPartitionPoint (λ (row : List Value). not (is_past strictly key (take key_len row)) ≡ true) (λ (row : List Value). not (is_past strictly key (take key_len row)) ≡ false) rows place
+    → IsCut key_len (is_past strictly key) rows place
+cut_at_point key_len strictly key rows place most point = record {
+  within = most;
+  before = λ k h. turned_back (is_past strictly key (key_at key_len rows k)) (point.0 k [] (omega arith) h);
+  behind = λ k h w. turned_true (is_past strictly key (key_at key_len rows k)) (point.1 k [] h w);
 }
-
-pub narrowed_low : (key_len : ℕ) (strictly : Bool) (key : List Value) (rows : List (List Value)) (low high middle : ℕ) → AreOrdered key_len rows
-    → IsNarrowed key_len (is_past strictly key) rows low high → low ≤ middle → middle < high
-    → is_past strictly key (key_at key_len rows middle) ≡ true
-    → IsNarrowed key_len (is_past strictly key) rows low middle
-narrowed_low key_len strictly key rows low high middle ordered narrowed le below past = record {
-  ordered = le;
-  within = let w : high ≤ length rows = narrowed.within in omega arith;
-  before = narrowed.before;
-  behind = λ k h w. past_behind key_len strictly key rows middle k ordered h w past;
-}
-
-pub narrowed_high : (key_len : ℕ) (strictly : Bool) (key : List Value) (rows : List (List Value)) (low high middle : ℕ) → AreOrdered key_len rows
-    → IsNarrowed key_len (is_past strictly key) rows low high → low ≤ middle → middle < high
-    → is_past strictly key (key_at key_len rows middle) ≡ false
-    → IsNarrowed key_len (is_past strictly key) rows (middle + 1) high
-narrowed_high key_len strictly key rows low high middle ordered narrowed le below past =
-    let w : high ≤ length rows = narrowed.within in
-    record {
-      ordered = omega arith;
-      within = narrowed.within;
-      before = λ k h. past_before key_len strictly key rows k middle ordered (omega arith) (omega arith) past;
-      behind = narrowed.behind;
-    }
-
-pub narrowed_end : (key_len : ℕ) (test : List Value → Bool) (rows : List (List Value)) (low high : ℕ)
-    → IsNarrowed key_len test rows low high → high ≤ low → IsCut key_len test rows low
-narrowed_end key_len test rows low high narrowed done =
-    let o : low ≤ high = narrowed.ordered in
-    let w : high ≤ length rows = narrowed.within in
-    record {
-      within = omega arith;
-      before = narrowed.before;
-      behind = λ k h v. narrowed.behind k (omega arith) v;
-    }
-
--- a row that an index gave is the one of its number
-pub index_is : (rows : List (List Value)) (k : ℕ) (row : List Value) → k < length rows → row ≡ slice_index_or rows k row → slice_index_or rows k [] ≡ row
-index_is [] k row within is = absurd (omega arith)
-index_is (first ∷ rows) zero row within is = sym is
-index_is (first ∷ rows) (suc k) row within is = index_is rows k row (omega arith) is
 
 -- equal tests cut at one place
 cut_same : (key_len : ℕ) (p q : List Value → Bool) (rows : List (List Value)) (place : ℕ) → ((key : List Value) → p key ≡ q key)

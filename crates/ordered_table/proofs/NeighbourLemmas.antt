@@ -201,11 +201,11 @@ greatest_is key_len edge key (row ∷ rows) ordered found =
 below_le : (a b : List Value) → key_cmp a b ≡ Less → edge_le (Before a) (Before b) ≡ true
 below_le a b below = ap is_le below
 
--- a key behind one that is past an edge is past it
+-- a key after one that is past an edge is past it
 past_stays : (edge : Edge) (a b : List Value) → is_past_edge edge a ≡ true → key_cmp a b ≡ Less → is_past_edge edge b ≡ true
 past_stays edge a b past below = edge_le_trans edge (Before a) (Before b) past (below_le a b below)
 
--- rows behind one that is past an edge are past it
+-- rows after one that is past an edge are past it
 all_past : (key_len : ℕ) (edge : Edge) (row : List Value) (rows : List (List Value)) → is_past_edge edge (take key_len row) ≡ true → IsBelowAll key_len row rows → rows_past key_len edge rows ≡ rows
 all_past key_len edge row [] past all = refl
 all_past key_len edge row (other ∷ others) past all =
@@ -221,7 +221,7 @@ past_greater key other below = ap (λ (o : Ordering). is_le (ordering_then o Gre
 not_past_greater : (key other : List Value) → key_cmp other key ≡ Less → is_past_edge (After key) other ≡ false
 not_past_greater key other below = ap (λ (o : Ordering). is_le (ordering_then o Greater)) (key_turns other key below)
 
--- the rows past a row's own key are those behind it
+-- the rows past a row's own key are those after it
 behind_own : (key_len : ℕ) (low : List Value) (rows : List (List Value)) → IsBelowAll key_len low rows → rows_past key_len (After (take key_len low)) rows ≡ rows
 behind_own key_len low [] all = refl
 behind_own key_len low (other ∷ others) all =
@@ -258,7 +258,7 @@ step_first key_len edge row first rows n false is all later found =
     (not_past_greater (take key_len row) (take key_len first)
     (below_got key_len first row (rows_past key_len edge rows) n (below_filtered key_len (λ (other : List Value). is_past_edge edge (take key_len other)) first rows all) found))))
 
--- the row behind one of those past an edge is the first past its key
+-- the row after one of those past an edge is the first past its key
 next_row : (key_len : ℕ) (edge : Edge) (row : List Value) (rows : List (List Value)) (n : ℕ) → AreOrdered key_len rows → slice_get (rows_past key_len edge rows) n ≡ Some row
     → slice_get (rows_past key_len edge rows) (suc n) ≡ row_past key_len (After (take key_len row)) rows
 next_row key_len edge row [] n ordered found = cc
@@ -287,7 +287,7 @@ past_end key_len [] n none = refl
 past_end key_len (row ∷ rows) zero none = absurd (let no : Some (take key_len row) ≡ None = none in cc)
 past_end key_len (row ∷ rows) (suc n) none = past_end key_len rows n none
 
--- behind the end of the keys past an edge there are none
+-- after the end of the keys past an edge there are none
 pub no_further : (key_len : ℕ) (edge : Edge) (n : ℕ) (rows : List (List Value)) → 1 ≤ n → nth_past key_len edge n rows ≡ None → nth_past key_len edge (n + 1) rows ≡ None
 no_further key_len edge n rows one none =
     let e : (n + 1) - 1 ≡ suc (n - 1) = omega arith in

@@ -13,7 +13,7 @@ use Rattle.ordered_table.proofs.CutLemmas.{before_is}
 use Rattle.ordered_table.specs.Pages.{flat}
 use Rattle.ordered_table.specs.PageOf.{IsAboveAll, IsUnderAll, IsPageOf}
 
--- the pages before one, its rows, and the pages behind it
+-- the pages before one, its rows, and the pages after it
 pub flat_at : (n : ℕ) (pages : List (List (List Value))) → n < length pages
     → flat pages ≡ flat (take n pages) ++ (slice_index_or pages n [] ++ flat (drop (suc n) pages))
 flat_at n [] within = absurd (omega arith)
@@ -143,7 +143,7 @@ without_key_page key_len key n pages of =
     ∙ ap (λ (rows : List (List Value)). flat (take n pages) ++ (filter test (slice_index_or pages n []) ++ rows)) behind
     ∙ sym (flat_set n (filter test (slice_index_or pages n [])) pages of.within)
 
--- the rows that a test keeps, where it keeps none before the page and all behind it
+-- the rows that a test keeps, where it keeps none before the page and all after it
 past_parts : (key_len : ℕ) (key : List Value) (test : List Value → Bool) (f : Ordering → Bool) (n : ℕ) (pages : List (List (List Value))) → IsPageOf key_len key pages n
     → ((row : List Value) → test row ≡ f (key_cmp key (take key_len row))) → f Greater ≡ false → f Less ≡ true
     → filter test (flat pages) ≡ filter test (slice_index_or pages n []) ++ flat (drop (suc n) pages)

@@ -1,7 +1,9 @@
--- Halving in the first keys finds the page of a key.
-use Rattle.std.proofs.Common.{◌≡◌, ℕ, zero, suc, ◌+◌, ◌-◌, ◌<◌, ◌≤◌, true, false, List, [], ◌∷◌, ◌++◌, length, take, refl, ap, sym, subst, arith}
+-- Binary search in the first keys finds the page of a key.
+use Rattle.std.proofs.Common.{◌≡◌, ℕ, zero, suc, ◌+◌, ◌-◌, ◌<◌, ◌≤◌, true, false, not, List, [], ◌∷◌, ◌++◌, length, take, ◌∙◌, refl, ap, sym, subst, arith}
 use Rattle.std.specs.Prelude.{slice_index_or}
 use Rattle.std.specs.List.{AllByRecursion}
+use Rattle.std.specs.List.Sorted.{IsPartitionedBy, IsPartitionPoint}
+use Rattle.std.proofs.lemmas.List.{get_or_default}
 use Rattle.std.specs.Ordering.{is_lt}
 use Rattle.std.specs.declared.cmp.Ordering.{Ordering}
 use Rattle.std.specs.declared.cmp.Ordering.TheVariants.{Less, Equal, Greater}
@@ -10,7 +12,7 @@ use Rattle.row_types.specs.Order.{key_cmp}
 use Rattle.row_types.proofs.OrderLemmas.{key_below, key_turns, key_turns_back, keys_exact}
 use Rattle.row_types.specs.KeyRows.{AreOrdered, IsBelowAll}
 use Rattle.ordered_table.specs.Places.{is_past, key_at, IsCut}
-use Rattle.ordered_table.proofs.CutLemmas.{cut_rest}
+use Rattle.ordered_table.proofs.CutLemmas.{cut_rest, not_past_parted, cut_at_point}
 use Rattle.ordered_table.specs.Pages.{flat, ArePages}
 use Rattle.ordered_table.specs.PageOf.{firsts, IsAboveAll, IsUnderAll, IsPageOf}
 use Rattle.ordered_table.proofs.SizeLemmas.{behind_fuller}
@@ -156,9 +158,38 @@ page_some n [] page are within is = absurd (omega arith)
 page_some zero (first ∷ pages) page are within is = let a : 64 < 64 + length first = are.0 in subst (λ (p : List (List Value)). 1 ≤ length p) (sym is) (omega arith)
 page_some (suc n) (first ∷ pages) page are within is = page_some n pages page (rest_are first pages are) (omega arith) is
 
--- the first row of a page that was read
-pub first_read : (n : ℕ) (pages : List (List (List Value))) (page : List (List Value)) → n < length pages → page ≡ slice_index_or pages n page
-    → slice_index_or (firsts pages) n [] ≡ slice_index_or page 0 []
-first_read n [] page within is = absurd (omega arith)
-first_read zero (first ∷ pages) page within is = ap (λ (p : List (List Value)). slice_index_or p 0 []) (sym is)
-first_read (suc n) (first ∷ pages) page within is = first_read n pages page (omega arith) is
+-- the first row of the page of a number
+first_at : (n : ℕ) (pages : List (List (List Value))) (d : List (List Value)) → n < length pages → slice_index_or (firsts pages) n [] ≡ slice_index_or (slice_index_or pages n d) 0 []
+first_at n [] d within = absurd (omega arith)
+first_at zero (page ∷ pages) d within = refl
+first_at (suc n) (page ∷ pages) d within = first_at n pages d (omega arith)
+
+-- pages whose first keys are not past a key stand before those whose first keys are
+pub pages_parted : (key_len : ℕ) (key : List Value) (pages : List (List (List Value))) → AreOrdered key_len (flat pages) → ArePages 64 pages
+    → IsPartitionedBy (λ (page : List (List Value)). not (is_past true key (take key_len (slice_index_or page 0 [])))) pages
+pages_parted key_len key pages ordered are i j d le within e =
+    let l : length (firsts pages) ≡ length pages = length_firsts pages in
+    ap (λ (row : List Value). not (is_past true key (take key_len row))) (sym (first_at i pages d (omega arith)))
+    ∙ not_past_parted key_len true key (firsts pages) (firsts_ordered key_len pages ordered are) i j [] le (omega arith)
+    (ap (λ (row : List Value). not (is_past true key (take key_len row))) (first_at j pages d within) ∙ e)
+
+-- the place between them cuts the first rows
+pub cut_at_page : (key_len : ℕ) (key : List Value) (pages : List (List (List Value))) (place : ℕ) → place ≤ length pages
+    → IsPartitionPoint (λ (page : List (List Value)). not (is_past true key (take key_len (slice_index_or page 0 []))) ≡ true)
+    (λ (page : List (List Value)). not (is_past true key (take key_len (slice_index_or page 0 []))) ≡ false) pages place
+    → IsCut key_len (is_past true key) (firsts pages) place
+cut_at_page key_len key pages place most point =
+    let l : length (firsts pages) ≡ length pages = length_firsts pages in
+    cut_at_point key_len true key (firsts pages) place (omega arith) (
+      (λ k d w h. ap (λ (row : List Value). not (is_past true key (take key_len row))) (get_or_default (firsts pages) k d [] (omega arith) ∙ first_at k pages [] (omega arith))
+          ∙ point.0 k [] (omega arith) h),
+      (λ k d h w. ap (λ (row : List Value). not (is_past true key (take key_len row))) (get_or_default (firsts pages) k d [] w ∙ first_at k pages [] (omega arith))
+          ∙ point.1 k [] h (omega arith)),
+    )
+
+-- no key is below the one of no row
+pub not_below_none : (key_len : ℕ) (key : List Value) → false ≡ is_past true key (take key_len [])
+not_below_none zero [] = refl
+not_below_none zero (value ∷ values) = refl
+not_below_none (suc n) [] = refl
+not_below_none (suc n) (value ∷ values) = refl

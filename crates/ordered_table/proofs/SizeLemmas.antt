@@ -62,7 +62,7 @@ parted_flat n lower upper page [] within parts = absurd (omega arith)
 parted_flat zero lower upper page (first ∷ pages) within parts = sym (append_assoc lower upper (flat pages)) ∙ ap (λ (rows : List _). rows ++ flat pages) parts
 parted_flat (suc n) lower upper page (first ∷ pages) within parts = ap (λ (rows : List _). first ++ rows) (parted_flat n lower upper page pages (omega arith) parts)
 
--- pages that may stand behind a page, whatever the two hold together
+-- pages that may stand after a page, whatever the two hold together
 abbrev pub AreLoose : {X : Type 0} → List (List X) → Type 0
 AreLoose [] = Unit {0}
 AreLoose (page ∷ pages) = (length page ≤ 64) × ArePages (length page) pages
@@ -187,7 +187,7 @@ loss_are (suc n) page (first ∷ pages) are within most =
     joined_are n 64 (joined (suc n) (slice_set (first ∷ pages) (suc n) page)) (loss_loose_deep n 64 page (first ∷ pages) are within most) in
     subst (ArePages 64) (sym (without_empty_kept (settled_loss (suc n) (slice_set (first ∷ pages) (suc n) page)) kept)) kept
 
--- where rows are spare and no page is empty, no split can be wanted
+-- where rows are spare and no page is empty, no split can be due
 pub room_for_split : (rows spare pages empties : ℕ) → HasRoom rows spare pages empties → 1 ≤ spare → 65 * pages ≤ 2 * rows + 64 → 1 ≤ empties
 room_for_split rows spare pages empties (inl each) some few = omega arith
 room_for_split rows spare pages empties (inr all) some few = omega arith
@@ -204,7 +204,7 @@ pub room_remove : (rows spare pages empties new_pages new_empties : ℕ) → Has
 room_remove rows spare pages empties new_pages new_empties (inl each) same more = inl (omega arith)
 room_remove rows spare pages empties new_pages new_empties (inr all) same more = inr (omega arith)
 
--- one page more is room for one row more
+-- one page more is reserved capacity for one row more
 pub room_more : (rows spare pages empties : ℕ) → HasRoom rows spare pages empties → HasRoom rows (suc spare) pages (suc empties)
 room_more rows spare pages empties (inl each) = inl (omega arith)
 room_more rows spare pages empties (inr all) = inr (omega arith)
@@ -274,12 +274,12 @@ page_most n before [] are within = absurd (omega arith)
 page_most zero before (page ∷ pages) are within = are.1
 page_most (suc n) before (page ∷ pages) are within = page_most n (length page) pages are.2 (omega arith)
 
--- more empty pages are room too
+-- more empty pages are reserved capacity too
 pub room_grows : (rows spare pages empties more : ℕ) → HasRoom rows spare pages empties → empties ≤ more → HasRoom rows spare pages more
 room_grows rows spare pages empties more (inl each) le = inl (omega arith)
 room_grows rows spare pages empties more (inr all) le = inr (omega arith)
 
--- the test for room
+-- the test for reserved capacity
 pub room_is : (rows spare pages empties : ℕ) → empties < spare → (2 * (rows + spare) + 127) / 65 ≤ pages + empties → HasRoom rows spare pages empties
 room_is rows spare pages empties few enough = inr (omega arith)
 
@@ -287,7 +287,7 @@ pub room_is_not : (rows spare pages empties : ℕ) → empties < spare → HasRo
 room_is_not rows spare pages empties few (inl each) = absurd (omega arith)
 room_is_not rows spare pages empties few (inr all) = omega arith
 
--- room after a change
+-- reserved capacity after a change
 pub room_to : (rows spare pages empties new_rows new_spare new_pages new_empties : ℕ) → HasRoom rows spare pages empties → new_pages + new_empties ≡ pages + empties
     → new_rows + new_spare ≤ rows + spare → new_spare + empties ≤ spare + new_empties → HasRoom new_rows new_spare new_pages new_empties
 room_to rows spare pages empties new_rows new_spare new_pages new_empties (inl each) same sum less = inl (omega arith)

@@ -18,7 +18,7 @@ IsAboveAll key_len key = AllByRecursion (λ (row : List Value). key_cmp key (tak
 abbrev pub IsUnderAll : ℕ → List Value → List (List Value) → Type 0
 IsUnderAll key_len key = AllByRecursion (λ (row : List Value). key_cmp key (take key_len row) ≡ Less)
 
--- the rows of the pages before this one are below the key, and those of the pages behind it above
+-- the rows of the pages before this one are below the key, and those of the pages after it above
 pub record IsPageOf (key_len : ℕ) (key : List Value) (pages : List (List (List Value))) (page : ℕ) : Type 0 where
   pub within : page < length pages
   pub before : IsAboveAll key_len key (flat (take page pages))

@@ -2,7 +2,7 @@
 use Rattle.std.specs.Prelude.{◌≤◌, vec_len, vec_capacity}
 use Rattle.ordered_table.specs.declared.pages.Page.TheInside.{Inside}
 
--- it has at most 64 rows, and room for 64
+-- it has at most 64 rows, and reserved capacity for 64
 pub record HasPlaces (page : Inside) : Type 0 where
   pub most : vec_len page.rows ≤ 64
   pub room : 64 ≤ vec_capacity page.rows

@@ -8,7 +8,7 @@ flat [] = []
 flat (page ∷ pages) = page ++ flat pages
 
 -- Each page has at most 64 rows, and together with the page before it more than 64. The first one stands as
--- if behind a page of this many rows; behind a full page each page has a row.
+-- if after a page of this many rows; after a full page each page has a row.
 abbrev pub ArePages : {X : Type 0} → ℕ → List (List X) → Type 0
 ArePages before [] = Unit {0}
 ArePages before (page ∷ pages) = (64 < before + length page) × (length page ≤ 64) × ArePages (length page) pages

@@ -9,7 +9,7 @@ use Rattle.ordered_table.specs.Room.{HasRoom}
 abbrev pub table_view : Inside → TableView
 table_view table = record { key_len = table.key_len; rows = flat table.store.pages; spare = table.spare }
 
--- the rows rise by key, the pages have their sizes, and there is room for the spare rows
+-- the rows rise by key, the pages have their sizes, and there are pages for the spare rows
 pub record IsKept (table : Inside) : Type 0 where
   pub key : 1 ≤ table.key_len
   pub most : table.key_len ≤ 2

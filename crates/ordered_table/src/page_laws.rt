@@ -10,7 +10,7 @@ pub fn pages_have_their_sizes()
         → 64 < length (slice_index_or pages n []) + length (slice_index_or pages (suc n) []) }
 {}
 
-/// Pages are few.
+/// Pages are few: but for the last, each has more than 32 rows on the average.
 #[tactic(auto, using(crate::proofs::SizeLemmas::pages_few))]
 pub fn pages_are_few()
     ensures { (pages : List (List (List Value))) → ArePages 64 pages → 65 * length pages ≤ 2 * length (flat pages) + 64 }

@@ -10,29 +10,21 @@ use row_types::Value;
 
 /// Whether the key of the page's first row is past this one.
 fn is_page_behind(page: &Page, key_len: u8, key: &[Value]) -> bool
-    requires { 1 ≤ length page.now }
     ensures { result ≡ is_past true key.now (take key_len (slice_index_or page.now 0 [])) }
 {
-    is_behind(&page.rows()[0], key_len, key, true)
+    match page.rows().first() {
+        None => false,
+        Some(row) => is_behind(row, key_len, key, true),
+    }
 }
 
-/// The number of the first page whose first key is past this one, found by halving.
+/// The number of the first page whose first key is past this one.
 fn first_page_past(pages: &[Page], key_len: u8, key: &[Value]) -> usize
     requires ordered { AreOrdered key_len (flat pages.now) }
     requires pages { ArePages 64 pages.now }
     ensures { IsCut key_len (is_past true key.now) (firsts pages.now) result }
 {
-    let mut low = 0;
-    let mut high = pages.len();
-    while low < high {
-        let middle = low + (high - low) / 2;
-        if is_page_behind(&pages[middle], key_len, key) {
-            high = middle;
-        } else {
-            low = middle + 1;
-        }
-    }
-    low
+    pages.partition_point(|page| !is_page_behind(page, key_len, key))
 }
 
 /// The number of the page that has the place of a key.

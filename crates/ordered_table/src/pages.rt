@@ -6,7 +6,7 @@ use row_types::{R, Row};
 use std::alloc::Global;
 use std::marker::Model;
 
-/// Rows that stand together: at most 64, and there is room for 64 from the start.
+/// Rows that stand together: at most 64, with reserved capacity for 64 from the start.
 #[derive(Debug, Drop)]
 pub(crate) struct Page {
     rows: Vec<Row>,

@@ -72,17 +72,7 @@ fn first_past(rows: &[Row], key_len: u8, key: &[Value], strictly: bool) -> usize
     requires { AreOrdered key_len rows.now }
     ensures { IsCut key_len (is_past strictly key.now) rows.now result }
 {
-    let mut low = 0;
-    let mut high = rows.len();
-    while low < high {
-        let middle = low + (high - low) / 2;
-        if is_behind(&rows[middle], key_len, key, strictly) {
-            high = middle;
-        } else {
-            low = middle + 1;
-        }
-    }
-    low
+    rows.partition_point(|row| !is_behind(row, key_len, key, strictly))
 }
 
 /// Whether a row's key is past this one, or at it unless only later keys count.

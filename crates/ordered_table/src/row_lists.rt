@@ -25,7 +25,7 @@ pub(crate) fn exchange(rows: &mut Vec<Row>, index: usize, row: Row) -> Row
     mem::replace(&mut rows[index], row)
 }
 
-/// Puts a row in before another, where there is room for it.
+/// Puts a row in before another, where there is reserved capacity for it.
 pub(crate) fn put_in(rows: &mut Vec<Row>, index: usize, row: Row)
     requires within { index ≤ vec_len rows.old }
     requires room { vec_len rows.old < vec_capacity rows.old }

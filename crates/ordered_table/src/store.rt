@@ -9,7 +9,8 @@ use row_types::{R, Row};
 use std::alloc::Global;
 use std::marker::Model;
 
-/// Pages by key, and empty pages that stand by.
+/// Pages by rising key, and empty pages for a split or a first row, which then take no memory. Both
+/// vectors have reserved capacity for all of them, so that a page moves between the two without memory.
 #[derive(Debug, Drop)]
 pub(crate) struct Store {
     pages: Vec<Page>,
@@ -113,7 +114,7 @@ impl Store {
         self.pages[page].take_out(index)
     }
 
-    /// Puts an empty page in behind all pages before this number.
+    /// Puts an empty page in after all pages before this number.
     pub fn open(&mut self, index: usize)
         requires within { index ≤ length self.old.pages }
         requires some { 1 ≤ self.old.empties }
@@ -126,7 +127,7 @@ impl Store {
         open_at(&mut self.pages, index, page);
     }
 
-    /// Puts a row into a full page, whose upper half goes to an empty page behind it.
+    /// Puts a row into a full page, whose upper half goes to an empty page after it.
     pub fn put_parted(&mut self, page: usize, index: usize, row: Row)
         requires page { page < length self.old.pages }
         requires full { length (slice_index_or self.old.pages page []) ≡ 64 }
@@ -218,7 +219,7 @@ impl Store {
         row
     }
 
-    /// Joins a page with the one behind it, where the two hold at most 64 rows.
+    /// Joins a page with the one after it, where the two hold at most 64 rows.
     pub fn join(&mut self, page: usize)
         requires { page < 2 ^ 63 }
         ensures pages { self.new.pages ≡ joined page self.old.pages }
@@ -253,7 +254,7 @@ impl Store {
     }
 }
 
-/// Keeps an empty page, where there is room for it.
+/// Keeps an empty page, where there is reserved capacity for it.
 fn give(empties: &mut Vec<Page>, page: Page)
     requires room { vec_len empties.old < vec_capacity empties.old }
     requires blank { All (λ (rows : List (List ColumnValue)). rows ≡ []) empties.old.items }
@@ -268,7 +269,7 @@ fn give(empties: &mut Vec<Page>, page: Page)
     }
 }
 
-/// Puts a page in before another, where there is room for it.
+/// Puts a page in before another, where there is reserved capacity for it.
 fn open_at(pages: &mut Vec<Page>, index: usize, page: Page)
     requires within { index ≤ vec_len pages.old }
     requires room { vec_len pages.old < vec_capacity pages.old }

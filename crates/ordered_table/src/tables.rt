@@ -217,7 +217,7 @@ impl Table {
         rows_from(self.store.pages(), self.key_len, edge)
     }
 
-    /// Puts a row at its key and hands back the row that it replaced. Only a row at an absent key wants
+    /// Puts a row at its key and hands back the row that it replaced. Only a row at an absent key takes
     /// memory; a refusal hands the row back and leaves the table's rows as they were.
     pub fn put(&mut self, row: Row) -> Result<Option<Row>, (Row, Memory)>
         requires { HasKey self.old.key_len row }
@@ -273,7 +273,7 @@ impl Table {
     }
 
     /// Puts a row at its key without memory and hands back the row that it replaced. At an absent key it
-    /// takes the room of one of the spare rows.
+    /// takes the reserved capacity of one of the spare rows.
     pub fn put_back(&mut self, row: Row) -> Option<Row>
         requires key { HasKey self.old.key_len row }
         requires room { row_at self.old.key_len (take self.old.key_len row) self.old.rows ≡ None → 1 ≤ self.old.spare }
