@@ -1,8 +1,8 @@
 use ordered_table::{RowsAhead, Table};
-use row_types::{Edge, Key, Memory, R, Row, Span, Value};
+use row_types::{Edge, Key, Memory, Plain, R, Row, Span, Value};
 use std::alloc::Global;
 use std::test::Fail;
-use test_builders::{key, key_of_two, keys_between, null_row, row};
+use test_builders::{key, key_of_two, keys_between, null_row, row, row_of_text};
 
 /// Puts a row that the table takes.
 fn put(table: &mut Table, row: Row) -> R<Option<Row>> {
@@ -168,28 +168,52 @@ fn spans_have_rows(rt: HostRuntime) -> Result<(), Fail> {
     Ok(())
 }
 
-/// Keys of two columns, with edges at a first column alone.
+/// The keys (1, 'a'), (1, 'b'), (2, 'a'), put in another order.
+fn two_columns(alloc: Global) -> R<Table> {
+    let mut table = Table::new(alloc, 2);
+    for (id, text) in [(2, b"a"), (1, b"b"), (1, b"a")] {
+        put(&mut table, row_of_text(alloc, id, text)?)?;
+    }
+    Ok(table)
+}
+
+/// Whether a key is there and is this one.
+fn has_key(found: Option<&[Value]>, want: &Key) -> bool {
+    match found {
+        None => false,
+        Some(values) => Value::all_same(values, want.as_slice()),
+    }
+}
+
+/// Keys of two columns, with an edge at a first column alone.
 #[test]
 fn keys_have_two_columns(rt: HostRuntime) -> Result<(), Fail> {
     let alloc = rt.alloc();
-    let mut table = Table::new(alloc, 2);
-    for (id, text) in [(2, b"a"), (1, b"b"), (1, b"a")] {
-        let key = key_of_two(alloc, id, text)?;
-        put(&mut table, Row { items: key.items })?;
-    }
-    let first = key_of_two(alloc, 1, b"a")?;
+    let table = two_columns(alloc)?;
     let second = key_of_two(alloc, 1, b"b")?;
-    let one = key(alloc, 1)?;
-    assert!(rt; table.get(&first).is_some() && table.get(&one).is_none());
-    let next = table.next(&Edge::After(one)).expect(&rt, "a key");
-    let next = Key::from_values(alloc, next)?;
-    assert!(rt; next.same(&first));
-    let next = table.next(&Edge::After(first)).expect(&rt, "a key");
-    let next = Key::from_values(alloc, next)?;
-    assert!(rt; next.same(&second));
+    let after_first = Edge::After(key_of_two(alloc, 1, b"a")?);
+    assert!(rt; table.get(&second).is_some() && has_key(table.next(&after_first), &second));
     assert!(rt; have_ids(table.each(&Span::whole()), &[1, 1, 2]));
-    assert!(rt; !table.takes(&null_row(alloc, 1)?));
-    assert!(rt; !table.takes(&Row::new(alloc)));
+    Ok(())
+}
+
+#[test]
+fn a_prefix_of_a_key_is_before_it(rt: HostRuntime) -> Result<(), Fail> {
+    let alloc = rt.alloc();
+    let table = two_columns(alloc)?;
+    let first = key_of_two(alloc, 1, b"a")?;
+    assert!(rt; table.get(&key(alloc, 1)?).is_none());
+    let after_one = Edge::After(key(alloc, 1)?);
+    assert!(rt; has_key(table.next(&after_one), &first));
+    Ok(())
+}
+
+/// Rows whose key has a NULL or lacks a value are not taken.
+#[test]
+fn rows_without_a_key_are_not_taken(rt: HostRuntime) -> Result<(), Fail> {
+    let table = Table::new(rt.alloc(), 2);
+    assert!(rt; !table.takes(&null_row(rt.alloc(), 1)?));
+    assert!(rt; !table.takes(&Row::new(rt.alloc())));
     Ok(())
 }
 
