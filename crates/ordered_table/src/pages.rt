@@ -1,4 +1,4 @@
-ghost use Rattle.std.specs.Prelude.{◌≡◌, ◌≤◌, ◌<◌, ◌+◌, ◌++◌, [], length, slice_index_or, slice_set, IfOk};
+ghost use Rattle.std.specs.Prelude.{◌≡◌, ◌≤◌, ◌<◌, ◌+◌, ◌++◌, [], length, slice_index_or, slice_set, IfOk, OnOk};
 ghost use Rattle.std.specs.List.{insert, remove};
 
 use crate::row_lists::{exchange, put_in};
@@ -42,6 +42,15 @@ impl Page {
             rows.push(row.copy(alloc)?)?;
         }
         Ok(Page { rows })
+    }
+
+    /// Moves the rows to the end of others.
+    pub fn move_to(self, rows: &mut Vec<Row>) -> R<()>
+        ensures { OnOk result (rows.new.items ≡ rows.old.items ++ self) }
+    {
+        let mut own = self.rows;
+        rows.append(&mut own)?;
+        Ok(())
     }
 
     pub fn len(&self) -> usize

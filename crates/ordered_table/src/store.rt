@@ -5,7 +5,7 @@ ghost use Rattle.ordered_table.specs.Parts.{IsParted};
 ghost use Rattle.ordered_table.specs.Pages.{flat, ArePages, joined, settled_split, settled_loss, without_empty};
 
 use crate::pages::Page;
-use row_types::{R, Row};
+use row_types::{R, Row, Rows};
 use std::alloc::Global;
 use std::marker::Model;
 
@@ -51,6 +51,17 @@ impl Store {
             pages,
             empties: Vec::with_capacity(alloc, self.pages.len())?,
         })
+    }
+
+    /// All rows, page after page, in one list.
+    pub fn into_rows(self, alloc: Global, count: usize) -> R<Rows>
+        ensures { IfOk result (λ rows. rows ≡ flat self.pages) }
+    {
+        let mut items = Vec::with_capacity(alloc, count)?;
+        for page in self.pages {
+            page.move_to(&mut items)?;
+        }
+        Ok(Rows { items })
     }
 
     pub fn pages(&self) -> &[Page]
