@@ -4,5 +4,5 @@ pub mod LiveLemmas
 pub mod MoveLemmas
 pub mod NodeLemmas
 pub mod OrderLemmas
-pub mod ReportLemmas
 pub mod RunLemmas
+pub mod SummaryLemmas

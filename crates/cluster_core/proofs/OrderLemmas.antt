@@ -10,7 +10,7 @@ use Rattle.std.proofs.lemmas.Cmp.{int_cmp_total, nat_list_cmp_total}
 use Rattle.row_types.specs.declared.values.Value.{Value}
 use Rattle.row_types.specs.declared.values.Value.TheVariants.{Null, Int, Text}
 use Rattle.row_types.specs.Order.{value_cmp, key_cmp}
-use Rattle.cluster_core.specs.Report.{rows_equal}
+use Rattle.cluster_core.specs.Summary.{rows_equal}
 
 -- what is its own reverse is no order but equality
 own_reverse : (o : Ordering) → o ≡ ordering_reverse o → o ≡ Equal

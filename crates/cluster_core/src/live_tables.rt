@@ -1,4 +1,4 @@
-ghost use Rattle.std.specs.Prelude.{◌≡◌, is_some, option_copied, slice_get, map, IfOk, OnOk, OnErr};
+ghost use Rattle.std.specs.Prelude.{◌≡◌, length, is_some, option_copied, slice_get, map, IfOk, OnOk, OnErr};
 ghost use Rattle.std.specs.List.{AllByRecursion};
 ghost use Rattle.row_types.specs.Fit.{IsSchema, AreTables};
 ghost use Rattle.ordered_table.specs.KeyRows.{rows_in};
@@ -67,9 +67,28 @@ impl LiveTables {
 
     /// The tables, in the order of their schemas.
     pub fn as_slice(&self) -> &[Table]
-        ensures { rows_of_each result.now ≡ self.now.tables }
+        ensures rows { rows_of_each result.now ≡ self.now.tables }
+        ensures len { length result.now ≡ length self.now.schemas }
     {
         self.tables.as_slice()
+    }
+
+    /// Copies of the rows of each table.
+    pub fn rows(&self, alloc: Global) -> R<Tables>
+        ensures { IfOk result (λ rows. rows ≡ self.now.tables) }
+    {
+        let rows = row_copies(alloc, self.tables.as_slice())?;
+        Ok(rows)
+    }
+
+    /// The schemas, and the rows of each table, none of them copied.
+    pub fn into_rows(self, alloc: Global) -> R<(Schemas, Tables)>
+        ensures schemas { IfOk result (λ parts. parts.0.tables ≡ self.schemas) }
+        ensures rows { IfOk result (λ parts. parts.1 ≡ self.tables) }
+    {
+        let LiveTables { schemas, tables } = self;
+        let rows = rows_out(alloc, tables)?;
+        Ok((schemas, rows))
     }
 
     /// Whether a table has a row at the key of this one; a table that isn't there has none.
@@ -141,6 +160,30 @@ fn table_copies(alloc: Global, tables: &[Table]) -> R<Vec<Table>>
         copies.push(table.copy(alloc)?)?;
     }
     Ok(copies)
+}
+
+/// Copies of the rows of each of these tables.
+fn row_copies(alloc: Global, tables: &[Table]) -> R<Tables>
+    ensures { IfOk result (λ rows. rows ≡ rows_of_each tables.now) }
+{
+    let mut rows = Tables::new(alloc);
+    for table in tables {
+        let copy = table.copy(alloc)?;
+        rows.push(copy.into_rows())?;
+    }
+    Ok(rows)
+}
+
+/// The rows of each of these tables, which are taken from the front.
+fn rows_out(alloc: Global, mut tables: Vec<Table>) -> R<Tables>
+    ensures { IfOk result (λ rows. rows ≡ rows_of_each tables.items) }
+{
+    let mut rows = Tables::new(alloc);
+    while !tables.is_empty() {
+        let table = tables.remove(0);
+        rows.push(table.into_rows())?;
+    }
+    Ok(rows)
 }
 
 /// Does a statement to a table of its schema; a refusal leaves the rows as they were.

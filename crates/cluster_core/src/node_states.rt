@@ -56,6 +56,12 @@ impl NodeState {
         &self.tables
     }
 
+    pub fn into_tables(self) -> LiveTables
+        ensures { result ≡ record { schemas = self.schemas; tables = self.here.tables } }
+    {
+        self.tables
+    }
+
     pub fn checks(&self) -> &Checks
         ensures { result.now ≡ self.now.here.checks }
     {

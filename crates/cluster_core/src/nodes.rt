@@ -5,13 +5,15 @@ ghost use Rattle.ptc_statement.specs.Fits.{FitsSchemas};
 ghost use Rattle.history.specs.Replay.{applied_of, position_of};
 ghost use Rattle.cluster_core.specs.Good.{EntryFits};
 ghost use Rattle.cluster_core.specs.Node.{replayed_of, logged, row_on};
+ghost use Rattle.cluster_core.specs.SummaryParts.{parts_of};
 
 use crate::live_tables::LiveTables;
+use crate::node_parts::NodeParts;
 use crate::node_states::NodeState;
 use checksum_table::Checks;
 use ptc_statement::{Statement, Statements};
-use row_types::{R, Row, Schemas, Tables};
-use statement_log::{Entry, Log, Origin};
+use row_types::{Items, Plain, R, Row, Schemas, Tables};
+use statement_log::{Entries, Entry, Log, Origin};
 use std::alloc::Global;
 use std::marker::Model;
 
@@ -116,7 +118,7 @@ impl Node {
 
     /// The tables as they are now.
     pub fn live(&self) -> &LiveTables
-        ensures { result.now.tables ≡ (replayed_of self.now).tables }
+        ensures { result.now ≡ record { schemas = self.now.schemas; tables = (replayed_of self.now).tables } }
     {
         self.state.tables()
     }
@@ -126,6 +128,39 @@ impl Node {
         ensures { result.now ≡ (replayed_of self.now).checks }
     {
         self.state.checks()
+    }
+
+    /// Copies of what a summary takes from the node.
+    pub(crate) fn parts(&self) -> R<NodeParts>
+        ensures { IfOk result (λ parts. parts ≡ parts_of self.now) }
+    {
+        let live = self.live();
+        Ok(NodeParts {
+            schemas: live.schemas().copy(self.alloc)?,
+            start: self.start.copy(self.alloc)?,
+            history: entry_copies(self.alloc, self.history.as_slice())?,
+            finals: live.rows(self.alloc)?,
+        })
+    }
+
+    /// What a summary takes from the node; no row and no entry is copied.
+    pub(crate) fn into_parts(self) -> R<NodeParts>
+        ensures { IfOk result (λ parts. parts ≡ parts_of self) }
+    {
+        let Node {
+            state,
+            start,
+            history,
+            alloc,
+            ..
+        } = self;
+        let (schemas, finals) = state.into_tables().into_rows(alloc)?;
+        Ok(NodeParts {
+            schemas,
+            start,
+            history: history.into_entries(),
+            finals,
+        })
     }
 
     /// The number of the last entry of the source's log that the node applied, 0 at first.
@@ -144,6 +179,14 @@ fn position_from(number: u64, origin: &Origin) -> u64
         Origin::Session(_) | Origin::Checksum | Origin::Sync { .. } | Origin::Local(_) => number,
         Origin::Applied(entry) => *entry,
     }
+}
+
+fn entry_copies(alloc: Global, entries: &[Entry]) -> R<Entries>
+    ensures { IfOk result (λ copies. copies ≡ entries.now) }
+{
+    Ok(Items {
+        items: Entry::copies(alloc, entries)?,
+    })
 }
 
 /// The entry of one statement.

@@ -6,21 +6,15 @@ ghost use Rattle.cluster_core.specs.Node.{replayed_of};
 ghost use Rattle.workload_file.specs.Workload.{IsWorkload};
 ghost use Rattle.cluster_core.specs.Sessions.{unstarted};
 ghost use Rattle.cluster_core.specs.World.{begun, fresh, session_turn, sessions_from, turn, tool_turn, worker_turn, tool_logged, published, next_phase, next_applied, behind_item, played, order, EndsIn, Reaches};
-ghost use Rattle.cluster_core.specs.Report.{report_of, status_of, starts_text, histories_text, verdicts_text, finals_text};
 ghost use Rattle.cluster_core.specs.Good.{EntryFits, PhaseFits};
 ghost use Rattle.ptc_statement.specs.Fits.{FitsSchemas};
 ghost use Rattle.cluster_core.specs.Turns.{IsNumbered, ItemIsNumbered, Takes, Plays, TookTurns};
 
 use crate::actors::ToolPhase;
 use crate::nodes::Node;
-use crate::report::{push_head, push_live_tables, push_log, push_status, push_tables};
-use crate::report_nodes::{
-    push_each_duplicate, push_each_equal, push_each_final, push_each_history, push_each_start,
-    push_each_verdict,
-};
 use crate::sessions::Session;
 use ptc_statement::{Script, Statement};
-use row_types::{Bytes, DigestKind, R, Schemas, Span, Tables};
+use row_types::{DigestKind, R, Schemas, Span, Tables};
 use statement_log::{Entry, Log, Origin};
 use std::alloc::Global;
 use std::marker::Model;
@@ -31,37 +25,13 @@ use workload_file::{Actor, Item, Schedule, Workload};
 /// entry.
 #[derive(Drop)]
 pub struct World {
-    source: Node,
-    replicas: Vec<Node>,
-    sessions: Vec<Session>,
+    pub(crate) source: Node,
+    pub(crate) replicas: Vec<Node>,
+    pub(crate) sessions: Vec<Session>,
     phase: ToolPhase,
     schedule: Schedule,
     played: usize,
-    alloc: Global,
-}
-
-/// The text of a report, and the exit status that it says.
-#[derive(Debug, Drop)]
-pub struct RunReport {
-    pub text: Bytes,
-    pub status: u8,
-}
-
-impl RunReport {
-    pub fn copy(&self, alloc: Global) -> R<RunReport>
-        ensures { IfOk result (λ copy. copy ≡ self.now) }
-    {
-        Ok(RunReport {
-            text: self.text.copy(alloc)?,
-            status: self.status,
-        })
-    }
-
-    pub fn same(&self, other: &RunReport) -> bool
-        ensures { IsTrue result ↔ (self.now ≡ other.now) }
-    {
-        self.text.same(&other.text) && self.status == other.status
-    }
+    pub(crate) alloc: Global,
 }
 
 impl Model for World {
@@ -133,86 +103,6 @@ impl World {
                 return Ok(());
             }
         }
-    }
-
-    /// The report of the world as it is now, and the exit status that it says.
-    #[tactic(auto, unfolding(crate::specs::Report::report_of))]
-    pub fn report(&self) -> R<RunReport>
-        ensures text { IfOk result (λ report. report.text ≡ report_of self.now) }
-        ensures status { IfOk result (λ report. report.status ≡ status_of self.now) }
-    {
-        let mut out = Vec::new(self.alloc);
-        push_head(self.alloc, &mut out, &self.source.schemas().tables)?;
-        self.push_starts(&mut out)?;
-        self.push_histories(&mut out)?;
-        let status = self.push_verdicts(&mut out)?;
-        self.push_finals(&mut out)?;
-        push_each_duplicate(self.alloc, &mut out, self.sessions.as_slice())?;
-        push_status(self.alloc, &mut out, status)?;
-        Ok(RunReport {
-            text: Bytes { items: out },
-            status,
-        })
-    }
-
-    #[tactic(auto, unfolding(crate::specs::Report::starts_text))]
-    fn push_starts(&self, out: &mut Vec<u8>) -> R<()>
-        ensures { OnOk result (out.new.items ≡ out.old.items ++ starts_text self.now) }
-    {
-        let schemas = &self.source.schemas().tables;
-        push_tables(
-            self.alloc,
-            out,
-            schemas,
-            b"START",
-            b"source",
-            self.source.start(),
-        )?;
-        push_each_start(self.alloc, out, schemas, self.replicas.as_slice())
-    }
-
-    #[tactic(auto, unfolding(crate::specs::Report::histories_text))]
-    fn push_histories(&self, out: &mut Vec<u8>) -> R<()>
-        ensures { OnOk result (out.new.items ≡ out.old.items ++ histories_text self.now) }
-    {
-        let schemas = &self.source.schemas().tables;
-        push_log(self.alloc, out, schemas, self.source.history())?;
-        push_each_history(self.alloc, out, schemas, self.replicas.as_slice())
-    }
-
-    /// The VERDICT lines, and the status that they ask for.
-    #[tactic(auto, unfolding(crate::specs::Report::verdicts_text))]
-    fn push_verdicts(&self, out: &mut Vec<u8>) -> R<u8>
-        ensures text { OnOk result (out.new.items ≡ out.old.items ++ verdicts_text self.now) }
-        ensures status { IfOk result (λ status. status ≡ status_of self.now) }
-    {
-        let schemas = &self.source.schemas().tables;
-        let some = push_each_verdict(
-            self.alloc,
-            out,
-            schemas,
-            self.source.checks(),
-            self.replicas.as_slice(),
-        )?;
-        Ok(if some { 16 } else { 0 })
-    }
-
-    #[tactic(auto, unfolding(crate::specs::Report::finals_text))]
-    fn push_finals(&self, out: &mut Vec<u8>) -> R<()>
-        ensures { OnOk result (out.new.items ≡ out.old.items ++ finals_text self.now) }
-    {
-        let schemas = &self.source.schemas().tables;
-        let replicas = self.replicas.as_slice();
-        push_live_tables(
-            self.alloc,
-            out,
-            schemas,
-            b"FINAL",
-            b"source",
-            self.source.live(),
-        )?;
-        push_each_final(self.alloc, out, schemas, replicas)?;
-        push_each_equal(self.alloc, out, schemas, self.source.live(), replicas)
     }
 
     /// Plays the rest of the schedule.

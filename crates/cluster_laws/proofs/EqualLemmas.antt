@@ -18,8 +18,8 @@ use Rattle.history.specs.Headline.{DigestsDistinguish, behind_applied, LeavesTab
 use Rattle.history.proofs.EqualLemmas.{stay_equal}
 use Rattle.cluster_core.specs.Node.{NodeView, replayed_of}
 use Rattle.cluster_core.specs.World.{WorldView, whole_table}
-use Rattle.cluster_core.specs.Report.{verdicts_of}
-use Rattle.cluster_core.specs.declared.report_verdicts.VerdictLine.{VerdictLine}
+use Rattle.cluster_core.specs.Summary.{verdicts_of}
+use Rattle.report_text.specs.declared.summaries.VerdictLine.{VerdictLine}
 use Rattle.cluster_core.proofs.EachLemmas.{each_more, slice_get_none}
 use Rattle.cluster_core.proofs.OrderLemmas.{rows_equal_exact}
 use Rattle.cluster_laws.specs.Headline.{log_of, source_rows_at, replica_rows_at, LineHolds, IsOfWholeTable, HasLine, IsApplying, AppliedAll, IsDistinguished, is_told_equal, SameIsEqual}

@@ -28,8 +28,8 @@ use Rattle.history.proofs.VerdictLemmas.{each_verdict}
 use Rattle.cluster_core.specs.Node.{NodeView, replayed_of, logged}
 use Rattle.cluster_core.specs.Sessions.{SessionView, unstarted, is_duplicate, by_session, with_refusal}
 use Rattle.cluster_core.specs.World.{WorldView, fresh, begun, session_turn, by_tool, whole_table, tool_logged, published, next_phase, tool_turn_in, next_applied, worker_turn, turn, sessions_from, workers_from, order, round, rounds, IsStill, EndsIn, move, behind_item, step, played}
-use Rattle.cluster_core.specs.declared.report_verdicts.VerdictLine.{VerdictLine}
-use Rattle.cluster_core.specs.Report.{verdict_line, all_chunks, replica_verdicts, verdicts_from, verdicts_of}
+use Rattle.report_text.specs.declared.summaries.VerdictLine.{VerdictLine}
+use Rattle.cluster_core.specs.Summary.{verdict_line, all_chunks, replica_verdicts, verdicts_from, verdicts_of}
 use Rattle.cluster_core.specs.Turns.{IsNumbered, ItemIsNumbered}
 use Rattle.cluster_laws.specs.OwnCalls.{logged_by}
 use Rattle.cluster_laws.specs.Duplicates.{EachRefusedTruly, LoggedTruly}

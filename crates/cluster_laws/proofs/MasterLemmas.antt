@@ -22,7 +22,7 @@ use Rattle.checksum_table.specs.Checks.{is_for, place_cmp, check_at, with_check,
 use Rattle.history.specs.Replay.{Replayed, checks_after, after_statement, after_statements, fold, position_of, applied_from, applied_of, IsNextOf, FollowsFrom, Follows}
 use Rattle.checksum_table.proofs.CheckLemmas.{check_at-with_check, check_at-with_master, check_at-without_table, check_at-with_check_same, check_at-with_check_other}
 use Rattle.history.proofs.ReplayLemmas.{fold_more, fold-take_more, applied_of-more, clients_keep_checks}
-use Rattle.cluster_core.specs.Report.{all_chunks}
+use Rattle.cluster_core.specs.Summary.{all_chunks}
 use Rattle.cluster_core.proofs.EachLemmas.{each_more}
 use Rattle.cluster_core.specs.declared.actors.ToolPhase.{ToolPhase}
 use Rattle.cluster_core.specs.declared.actors.ToolPhase.TheVariants.{Clear, Check, Master, Finished}

@@ -14,9 +14,9 @@ use Rattle.checksum_table.specs.Checks.{is_for, place_cmp, check_at, with_check,
 use Rattle.checksum_table.proofs.CheckLemmas.{check_at-with_check, check_at-with_master, check_at-without_table, check_at-without_table_other}
 use Rattle.cluster_core.specs.Node.{NodeView, replayed_of}
 use Rattle.cluster_core.specs.World.{whole_table}
-use Rattle.cluster_core.specs.Report.{verdict_line, all_chunks, verdicts_on, replica_verdicts, verdicts_from}
+use Rattle.cluster_core.specs.Summary.{verdict_line, all_chunks, verdicts_on, replica_verdicts, verdicts_from}
 use Rattle.cluster_laws.specs.Headline.{HasLine}
-use Rattle.cluster_core.specs.declared.report_verdicts.VerdictLine.{VerdictLine}
+use Rattle.report_text.specs.declared.summaries.VerdictLine.{VerdictLine}
 use Rattle.cluster_core.specs.declared.actors.ToolPhase.{ToolPhase}
 use Rattle.cluster_core.specs.declared.actors.ToolPhase.TheVariants.{Clear, Check, Master, Finished}
 use Rattle.cluster_laws.proofs.MasterLemmas.{AllMastered, PhaseHolds, IsThere, told_in, there_either, cleared_row, none_mastered, cleared_mastered, checked_mastered, mastered_mastered}

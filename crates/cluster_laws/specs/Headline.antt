@@ -15,8 +15,8 @@ use Rattle.history.specs.Headline.{MastersAreTrue, EachIsWritten, HasStatementAt
 use Rattle.cluster_core.specs.Node.{NodeView, replayed_of}
 use Rattle.cluster_core.specs.Sessions.{SessionView}
 use Rattle.cluster_core.specs.World.{WorldView, whole_table}
-use Rattle.cluster_core.specs.Report.{verdicts_of, rows_equal}
-use Rattle.cluster_core.specs.declared.report_verdicts.VerdictLine.{VerdictLine}
+use Rattle.cluster_core.specs.Summary.{verdicts_of, rows_equal}
+use Rattle.report_text.specs.declared.summaries.VerdictLine.{VerdictLine}
 use Rattle.cluster_core.specs.declared.actors.ToolPhase.TheVariants.{Finished}
 use Rattle.workload_file.specs.declared.workload.Workload.{Workload}
 use Rattle.cluster_laws.specs.OwnCalls.{EachOwnCalls}
@@ -25,8 +25,8 @@ use Rattle.cluster_laws.specs.Duplicates.{EachRefusedTruly, LoggedTruly}
 -- a VERDICT line compares these two lists of rows, by digests of this kind
 pub record LineCompares (line : VerdictLine) (kind : DigestKind) (source_rows replica_rows : Rows) : Type 0 where
   -- its counts are their lengths
-  pub master_count : line.master_count ≡ Some (length source_rows)
-  pub own_count : line.own_count ≡ Some (length replica_rows)
+  pub master_count : line.master ≡ Some (length source_rows)
+  pub own_count : line.own ≡ Some (length replica_rows)
   -- it is DIFFER exactly where their digests differ
   pub differ : (line.verdict ≡ Differ) ↔ (digest_of kind source_rows ≢ digest_of kind replica_rows)
   -- so DIFFER means that they differ, and SAME that they are equal where digests distinguish them

@@ -8,7 +8,7 @@ use Rattle.ptc_io.specs.Bytes.{TakesUpTo, IsAtEnd}
 use Rattle.workload_file.specs.declared.workload.Workload.{Workload}
 use Rattle.workload_file.specs.Workload.{IsWorkload}
 use Rattle.cluster_core.specs.World.{WorldView}
-use Rattle.cluster_core.specs.Report.{differs, verdicts_of, status_of}
+use Rattle.cluster_core.specs.Summary.{differs, verdicts_of, status_of}
 use Rattle.cluster_laws.proofs.HeadlineLemmas.{each_run}
 use Rattle.ptc_run.specs.declared.words.WordFault.{WordFault}
 use Rattle.ptc_run.specs.FirstForm.{IsWorkloadText}

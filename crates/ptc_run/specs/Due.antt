@@ -3,7 +3,8 @@ use Rattle.std.specs.Prelude.{◌≡◌, ◌<◌, ◌≤◌, ◌⊎◌, ℕ, Lis
 use Rattle.ptc_io.specs.Bytes.{Appends, AppendsFront, IsAtEnd}
 use Rattle.workload_file.specs.declared.workload.Workload.{Workload}
 use Rattle.cluster_core.specs.World.{WorldView, begun, EndsIn}
-use Rattle.cluster_core.specs.Report.{report_of, status_of}
+use Rattle.report_text.specs.Report.{report_of}
+use Rattle.cluster_core.specs.Summary.{summary_of, status_of}
 use Rattle.cluster_laws.specs.Headline.{RunHolds}
 use Rattle.ptc_run.specs.declared.words.WordFault.{WordFault}
 use Rattle.ptc_run.specs.FirstForm.{IsWorkloadText, IsEarly}
@@ -33,7 +34,7 @@ pub record HasRun (input : List ℕ) (code : ℕ) (text : List ℕ) : Type 0 whe
   -- each verdict in it compares the source's and the replica's rows at one position of its log
   pub holds : RunHolds workload last
   pub status : code ≡ status_of last
-  pub report : text ≡ report_of last
+  pub report : text ≡ report_of (summary_of last)
 
 abbrev pub FileDue : List ℕ → ℕ → List ℕ → Type 0
 FileDue input code text = PassesLimit input code text ⊎ (HasEarlyLine input code text ⊎ HasRun input code text)
@@ -80,4 +81,4 @@ pub record Reports (workload : Workload) (code : ℕ) (text : List ℕ) : Type 0
   pub last : WorldView
   pub run : EndsIn (begun workload) last
   pub status : code ≡ status_of last
-  pub report : text ≡ report_of last
+  pub report : text ≡ report_of (summary_of last)

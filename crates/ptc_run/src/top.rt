@@ -12,6 +12,7 @@ use crate::first_form::FileFault;
 use crate::words::{read_words, refuse_bytes, refuse_line, refuse_words};
 use cluster_core::World;
 use ptc_io::{ReadFault, Sink, Source, Status, read_to_limit, write_all};
+use report_text::report;
 use row_types::{Bytes, Memory, R};
 use std::alloc::Global;
 use workload_file::Workload;
@@ -170,9 +171,10 @@ fn run_answer(alloc: Global, workload: Workload) -> R<Answer>
 {
     let mut world = World::new(alloc, workload)?;
     world.run()?;
-    let report = world.report()?;
+    let summary = world.into_summary()?;
+    let text = report(alloc, &summary)?;
     Ok(Answer {
-        text: report.text,
-        code: report.status,
+        text: Bytes { items: text },
+        code: summary.status,
     })
 }

@@ -1,8 +1,7 @@
-use Rattle.std.proofs.Common.{◌≡◌, ◌∙◌, sym, ap, subst, arith, List}
+use Rattle.std.proofs.Common.{◌∙◌, sym, ap, subst, arith, List}
 use Rattle.std.specs.List.{AllByRecursion}
 use Rattle.row_types.specs.declared.values.Value.{Value}
 use Rattle.row_types.specs.declared.digests.Digest.{Digest}
-use Rattle.row_types.specs.Order.{has}
 use Rattle.row_digest.specs.Encoding.{IsEncodable}
 use Rattle.row_digest.specs.Digest.{added_rows, no_rows}
 use Rattle.cluster_core.proofs.EachLemmas.{each_filtered}

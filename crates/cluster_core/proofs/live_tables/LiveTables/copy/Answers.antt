@@ -2,8 +2,7 @@ use Rattle.std.proofs.Common.{◌≡◌, ◌∙◌, sym, ap, subst, map, List}
 use Rattle.row_types.specs.declared.values.Value.{Value}
 use Rattle.row_types.specs.declared.table_schema.Schema.{Schema}
 use Rattle.row_types.specs.declared.table_schema.Schemas.{Schemas}
-use Rattle.ordered_table.specs.TableView.{TableView}
-use Rattle.cluster_core.specs.LiveTables.{LiveView, rows_of_each}
+use Rattle.cluster_core.specs.LiveTables.{rows_of_each}
 use Rattle.cluster_core.specs.LiveParts.{AreSound, without_spare}
 use Rattle.cluster_core.proofs.LiveLemmas.{copied_rows, copied_sound}
 use Rattle.cluster_core.proofs.live_tables.LiveTables.copy.Goals as goal

@@ -1,7 +1,7 @@
 use Rattle.std.proofs.Common.{◌≡◌, ap, ◌∙◌, sym, List, [], ◌∷◌, ◌++◌}
 use Rattle.row_types.specs.declared.table_schema.Schema.{Schema}
 use Rattle.statement_log.specs.declared.entries.Entry.{Entry}
-use Rattle.history.specs.Replay.{Replayed, applied_of, fold, position_of}
+use Rattle.history.specs.Replay.{applied_of, fold, position_of}
 use Rattle.history.proofs.ReplayLemmas.{applied_of-more}
 use Rattle.cluster_core.specs.Node.{StateView, after_each}
 use Rattle.cluster_core.proofs.NodeLemmas.{log_keeps}
