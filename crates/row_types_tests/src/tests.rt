@@ -1,75 +1,101 @@
-ghost use Rattle.std.specs.Prelude.{◌≡◌, IfOk, List, [], ◌∷◌, length};
+ghost use Rattle.std.specs.Prelude.{◌≡◌, ◌<◌, ◌^◌, IfOk, [], ◌∷◌, length};
+ghost use Rattle.row_types.specs.Faults.{TextIsShort};
 
 use row_types::{
-    Bytes, Column, ColumnKind, Columns, Digest, DigestKind, Edge, Key, LockMode, Memory, Plain, R,
-    Row, RowFault, Rows, Schema, SchemaList, Schemas, Span, Tables, Value, clip,
+    Bytes, ColumnKind, Columns, Digest, DigestKind, Edge, Key, LockMode, Memory, Plain, R, Row,
+    RowFault, Rows, Schema, Schemas, Span, Value, clip,
 };
 use std::alloc::Global;
-use std::cmp::Ordering;
 use std::test::Fail;
-use test_builders::{column, key_of_two as key, null_row as row, schema, text, text_value};
+use test_builders::{
+    column, key_of_two as key, null_row as row, schema, schemas, tables, text_value,
+};
 
-/// A number's order against a text's, and that of keys of two columns.
-#[test]
-fn keys_are_ordered(rt: HostRuntime) -> Result<(), Fail> {
-    let alloc = rt.alloc();
-    let low = key(alloc, -7, b"ab")?;
-    let prefix = key(alloc, -7, b"a")?;
-    let high = key(alloc, i64::MAX, b"")?;
-    assert!(rt; low.compare(&low).is_eq());
-    assert!(rt; prefix.compare(&low) == Ordering::Less);
-    assert!(rt; high.compare(&low) == Ordering::Greater);
-    let mut short = Key::new(alloc);
-    short.push(Value::Int(-7))?;
-    assert!(rt; short.compare(&prefix) == Ordering::Less);
+/// Keys that rise: a key before those that it is a prefix of, a number before each text.
+fn keys(alloc: Global) -> R<Vec<Key>> {
+    let mut keys = Vec::new(alloc);
+    keys.push(Key::from_values(alloc, &[Value::Int(-7)])?)?;
+    keys.push(key(alloc, -7, b"a")?)?;
+    keys.push(key(alloc, -7, b"ab")?)?;
+    keys.push(key(alloc, i64::MAX, b"")?)?;
     let mut worded = Key::new(alloc);
     worded.push(text_value(alloc, b"")?)?;
-    assert!(rt; high.compare(&worded) == Ordering::Less);
-    let copy = low.copy(alloc)?;
-    assert!(rt; copy.same(&low) && !copy.same(&prefix));
+    keys.push(worded)?;
+    Ok(keys)
+}
+
+/// Whether a copy of the key of this number stands in its place among the keys.
+fn key_is_placed(copy: &Key, keys: &[Key], place: usize) -> bool {
+    for i in 0..keys.len() {
+        if copy.compare(&keys[i]) != place.cmp(&i) || copy.same(&keys[i]) != (i == place) {
+            return false;
+        }
+    }
+    true
+}
+
+#[test]
+fn keys_are_ordered(rt: HostRuntime) -> Result<(), Fail> {
+    let keys = keys(rt.alloc())?;
+    assert!(rt; keys.len() == 5);
+    for i in 0..keys.len() {
+        let copy = keys[i].copy(rt.alloc())?;
+        assert!(rt; key_is_placed(&copy, keys.as_slice(), i), "at {i}");
+    }
     Ok(())
+}
+
+/// The keys after one and before another.
+fn keys_within(alloc: Global, low: &[u8], high: &[u8]) -> R<Span> {
+    let lo = Edge::After(key(alloc, 1, low)?);
+    let hi = Edge::Before(key(alloc, 3, high)?);
+    Ok(Span { lo, hi })
 }
 
 /// A span from after one key to before another has neither.
 #[test]
 fn spans_have_keys(rt: HostRuntime) -> Result<(), Fail> {
-    let alloc = rt.alloc();
-    let lo = Edge::After(key(alloc, 1, b"a")?);
-    let hi = Edge::Before(key(alloc, 3, b"")?);
-    assert!(rt; lo.compare(&hi) == Ordering::Less && Edge::High.compare(&lo) == Ordering::Greater);
-    let span = Span { lo, hi };
+    let span = keys_within(rt.alloc(), b"a", b"")?;
     for (number, bytes, want) in [(1, b"a", false), (1, b"b", true), (3, b" ", false)] {
-        let key = key(alloc, number, bytes)?;
-        assert!(rt; span.has(&key) == want, "at {number}");
-        assert!(rt; Span::whole().has(&key));
+        let key = key(rt.alloc(), number, bytes)?;
+        assert!(rt;
+            span.has(&key) == want && Span::whole().has(&key),
+            "at {number}"
+        );
     }
-    let copy = span.copy(alloc)?;
+    let copy = span.copy(rt.alloc())?;
     assert!(rt; copy.same(&span) && !copy.same(&Span::whole()));
     Ok(())
 }
 
-/// Copies of schemas and tables are the same as what they were made from.
-#[test]
-fn tables_and_schemas_are_copied(rt: HostRuntime) -> Result<(), Fail> {
-    let alloc = rt.alloc();
+/// The schemas of the table `t (a INT, b VARCHAR(4))`, whose key is both columns.
+fn two_columns(alloc: Global) -> R<Schemas> {
     let mut columns = Columns::new(alloc);
-    for (name, kind) in [(b"a", ColumnKind::Int), (b"b", ColumnKind::Text { max: 4 })] {
-        columns.push(column(alloc, name, kind, false)?)?;
-    }
-    let mut tables = SchemaList::new(alloc);
-    tables.push(schema(alloc, b"t", columns, 2)?)?;
-    let schemas = Schemas { tables };
-    assert!(rt; schemas.copy(alloc)?.same(&schemas));
-    assert!(rt; schemas.tables.get(1).is_none() && schemas.tables.get(0).is_some());
+    columns.push(column(alloc, b"a", ColumnKind::Int, false)?)?;
+    columns.push(column(alloc, b"b", ColumnKind::Text { max: 4 }, false)?)?;
+    let tables = schemas(alloc, schema(alloc, b"t", columns, 2)?)?;
+    Ok(Schemas { tables })
+}
 
-    let mut rows = Rows::new(alloc);
-    rows.push(row(alloc, i64::MIN)?)?;
-    let mut tables = Tables::new(alloc);
-    tables.push(rows)?;
-    let mut copy = tables.copy(alloc)?;
+#[test]
+fn schemas_are_copied(rt: HostRuntime) -> Result<(), Fail> {
+    let schemas = two_columns(rt.alloc())?;
+    let mut copy = schemas.copy(rt.alloc())?;
+    assert!(rt; copy.same(&schemas) && copy.tables.len() == 1);
+    assert!(rt; copy.tables.get(1).is_none() && copy.tables.get(0).is_some());
+    copy.tables.items.clear();
+    assert!(rt; !copy.same(&schemas));
+    Ok(())
+}
+
+/// A copy of tables is the same until a table more is put in.
+#[test]
+fn tables_are_copied(rt: HostRuntime) -> Result<(), Fail> {
+    let tables = tables(rt.alloc(), &[(i64::MIN, 0)])?;
+    let mut copy = tables.copy(rt.alloc())?;
     assert!(rt; copy.same(&tables) && copy.len() == 1 && !copy.is_empty());
-    copy.push(Rows::new(alloc))?;
-    assert!(rt; !copy.same(&tables) && copy.len() == 2 && !copy.is_empty());
+    copy.push(Rows::new(rt.alloc()))?;
+    assert!(rt; !copy.same(&tables) && copy.len() == 2);
     Ok(())
 }
 
@@ -115,54 +141,59 @@ fn numbers_are_clipped(rt: HostRuntime) -> Result<(), Fail> {
     Ok(())
 }
 
-/// The meeting of two spans, and of two that have no key in common.
+/// The meeting of two spans that overlap, either way round.
 #[test]
 fn spans_meet(rt: HostRuntime) -> Result<(), Fail> {
-    let alloc = rt.alloc();
-    let one = Span {
-        lo: Edge::After(key(alloc, 1, b"a")?),
-        hi: Edge::High,
-    };
-    let two = Span {
-        lo: Edge::Low,
-        hi: Edge::Before(key(alloc, 2, b"")?),
-    };
-    let both = one.meet(alloc, &two)?;
-    assert!(rt; both.lo.same(&one.lo) && both.hi.same(&two.hi));
-    assert!(rt; two.meet(alloc, &one)?.same(&both));
-    let point = Span {
-        lo: Edge::Before(key(alloc, 1, b"a")?),
-        hi: Edge::After(key(alloc, 1, b"a")?),
-    };
-    let none = point.meet(alloc, &one)?;
-    assert!(rt;
-        none.same(&Span {
-            lo: Edge::Low,
-            hi: Edge::Low
-        })
-    );
-    assert!(rt; point.meet(alloc, &two)?.same(&point));
-    assert!(rt; point.has(&key(alloc, 1, b"a")?));
+    let one = keys_within(rt.alloc(), b"a", b"x")?;
+    let two = keys_within(rt.alloc(), b"b", b"y")?;
+    let both = one.meet(rt.alloc(), &two)?;
+    assert!(rt; both.lo.same(&two.lo) && both.hi.same(&one.hi));
+    assert!(rt; two.meet(rt.alloc(), &one)?.same(&both));
     Ok(())
 }
 
-/// Edges around equal keys: Before, then After; those of a greater key follow.
+/// A span that ends where another begins has no key in common with it.
+#[test]
+fn spans_that_touch_have_no_key_in_common(rt: HostRuntime) -> Result<(), Fail> {
+    let above = keys_within(rt.alloc(), b"a", b"x")?;
+    let upto = Span {
+        lo: Edge::Low,
+        hi: Edge::After(key(rt.alloc(), 1, b"a")?),
+    };
+    let none = above.meet(rt.alloc(), &upto)?;
+    assert!(rt; none.lo.same(&Edge::Low) && none.hi.same(&Edge::Low));
+    assert!(rt; upto.meet(rt.alloc(), &Span::whole())?.same(&upto));
+    Ok(())
+}
+
+/// Edges that rise, around equal keys: Before, then After; those of a greater key follow.
+fn edges(alloc: Global) -> R<Vec<Edge>> {
+    let mut edges = Vec::new(alloc);
+    edges.push(Edge::Low)?;
+    edges.push(Edge::Before(key(alloc, 1, b"a")?))?;
+    edges.push(Edge::After(key(alloc, 1, b"a")?))?;
+    edges.push(Edge::Before(key(alloc, 1, b"ab")?))?;
+    edges.push(Edge::High)?;
+    Ok(edges)
+}
+
+/// Whether a copy of the edge of this number stands in its place among the edges.
+fn edge_is_placed(copy: &Edge, edges: &[Edge], place: usize) -> bool {
+    for i in 0..edges.len() {
+        if copy.compare(&edges[i]) != place.cmp(&i) || copy.same(&edges[i]) != (i == place) {
+            return false;
+        }
+    }
+    true
+}
+
 #[test]
 fn edges_are_ordered(rt: HostRuntime) -> Result<(), Fail> {
-    let alloc = rt.alloc();
-    let edges = [
-        Edge::Low,
-        Edge::Before(key(alloc, 1, b"a")?),
-        Edge::After(key(alloc, 1, b"a")?),
-        Edge::Before(key(alloc, 1, b"ab")?),
-        Edge::High,
-    ];
-    for i in 0..5usize {
-        let copy = edges[i].copy(alloc)?;
-        for j in 0..5usize {
-            assert!(rt; copy.compare(&edges[j]) == i.cmp(&j), "{i} and {j}");
-            assert!(rt; copy.same(&edges[j]) == (i == j), "{i} and {j}");
-        }
+    let edges = edges(rt.alloc())?;
+    assert!(rt; edges.len() == 5);
+    for i in 0..edges.len() {
+        let copy = edges[i].copy(rt.alloc())?;
+        assert!(rt; edge_is_placed(&copy, edges.as_slice(), i), "at {i}");
     }
     Ok(())
 }
@@ -204,28 +235,43 @@ fn rows_fit(rt: HostRuntime) -> Result<(), Fail> {
     Ok(())
 }
 
+/// What is wrong with a row of these values.
+fn check_triple(alloc: Global, first: Value, second: Value, third: &[u8]) -> R<Result<(), RowFault>>
+    requires first { TextIsShort first }
+    requires second { TextIsShort second }
+    requires third { length third.now < 2 ^ 32 }
+{
+    let row = triple(alloc, first, second, third)?;
+    let schema = checked_schema(alloc)?;
+    Ok(schema.check(&row))
+}
+
 /// Each fault, the first column's first.
 #[test]
 fn rows_have_faults(rt: HostRuntime) -> Result<(), Fail> {
     let alloc = rt.alloc();
-    let schema = checked_schema(alloc)?;
-    let short = row(alloc, 1)?;
+    let big = 2147483648;
+    let null = check_triple(alloc, Value::Null, Value::Int(big), b"")?;
+    assert!(rt; null == Err(RowFault::NullIn { column: 0 }));
+    let high = check_triple(alloc, Value::Int(1), Value::Int(big), b"abcd")?;
+    assert!(rt;
+        high == Err(RowFault::OutOfRange {
+            column: 1,
+            value: big
+        })
+    );
+    let long = check_triple(alloc, Value::Int(1), Value::Int(0), b"abcd")?;
+    assert!(rt; long == Err(RowFault::TooLong { column: 2, len: 4 }));
+    let kind = check_triple(alloc, Value::Int(1), text_value(alloc, b"x")?, b"abcd")?;
+    assert!(rt; kind == Err(RowFault::Kind { column: 1 }));
+    Ok(())
+}
+
+#[test]
+fn rows_have_a_value_for_each_column(rt: HostRuntime) -> Result<(), Fail> {
+    let schema = checked_schema(rt.alloc())?;
+    let short = row(rt.alloc(), 1)?;
     assert!(rt; schema.check(&short) == Err(RowFault::Arity { got: 2, want: 3 }));
-    let null = triple(alloc, Value::Null, Value::Int(2147483648), b"")?;
-    assert!(rt; schema.check(&null) == Err(RowFault::NullIn { column: 0 }));
-    let worded = text_value(alloc, b"x")?;
-    let kind = triple(alloc, Value::Int(1), worded, b"abcd")?;
-    assert!(rt; schema.check(&kind) == Err(RowFault::Kind { column: 1 }));
-    let high = triple(alloc, Value::Int(1), Value::Int(2147483648), b"abcd")?;
-    let range = RowFault::OutOfRange {
-        column: 1,
-        value: 2147483648,
-    };
-    assert!(rt; schema.check(&high) == Err(range));
-    let long = triple(alloc, Value::Int(1), Value::Int(0), b"abcd")?;
-    let fault = RowFault::TooLong { column: 2, len: 4 };
-    assert!(rt; schema.check(&long) == Err(fault));
-    assert!(rt; fault.copy(alloc)?.same(&fault) && !fault.same(&range));
     Ok(())
 }
 
@@ -242,6 +288,13 @@ fn variants_are_copied(rt: HostRuntime) -> Result<(), Fail> {
             assert!(rt; digest.same(&digests[j]) == (i == j), "{i} and {j}");
         }
     }
+    assert!(rt; Memory.copy(alloc)?.same(&Memory));
+    Ok(())
+}
+
+#[test]
+fn kinds_are_copied(rt: HostRuntime) -> Result<(), Fail> {
+    let alloc = rt.alloc();
     let kinds = [
         ColumnKind::Int,
         ColumnKind::BigInt,
@@ -254,7 +307,6 @@ fn variants_are_copied(rt: HostRuntime) -> Result<(), Fail> {
             assert!(rt; kind.same(&kinds[j]) == (i == j), "{i} and {j}");
         }
     }
-    assert!(rt; Memory.copy(alloc)?.same(&Memory));
     Ok(())
 }
 
@@ -294,26 +346,49 @@ fn texts_are_copied(rt: HostRuntime) -> Result<(), Fail> {
     Ok(())
 }
 
-/// Values, and slices of them, are the same as their copies, and as no other of the same length.
-#[test]
-fn values_are_copied(rt: HostRuntime) -> Result<(), Fail> {
-    let alloc = rt.alloc();
-    let values = [
-        Value::Null,
-        Value::Int(1),
-        Value::Int(-1),
-        text_value(alloc, b"ab")?,
-        text_value(alloc, b"aa")?,
-    ];
-    for i in 0..5usize {
-        let copy = values[i].copy(alloc)?;
-        for j in 0..5usize {
-            assert!(rt; copy.same(&values[j]) == (i == j), "{i} and {j}");
+/// Values of each kind.
+fn values(alloc: Global) -> R<Vec<Value>> {
+    let mut values = Vec::new(alloc);
+    values.push(Value::Null)?;
+    values.push(Value::Int(1))?;
+    values.push(Value::Int(-1))?;
+    values.push(text_value(alloc, b"ab")?)?;
+    values.push(text_value(alloc, b"aa")?)?;
+    Ok(values)
+}
+
+/// Whether the copy of the value of this number is the same as that value alone.
+fn is_only(copy: &Value, values: &[Value], place: usize) -> bool {
+    for i in 0..values.len() {
+        if copy.same(&values[i]) != (i == place) {
+            return false;
         }
     }
-    let copies = Value::copies(alloc, &values)?;
-    assert!(rt; Value::all_same(copies.as_slice(), &values));
-    assert!(rt; !Value::all_same(copies.as_slice().split_at(4).0, &values));
-    assert!(rt; !Value::all_same(copies.as_slice().split_at(1).1, values.split_at(4).0));
+    true
+}
+
+#[test]
+fn values_are_copied(rt: HostRuntime) -> Result<(), Fail> {
+    let values = values(rt.alloc())?;
+    assert!(rt; values.len() == 5);
+    for i in 0..values.len() {
+        let copy = values[i].copy(rt.alloc())?;
+        assert!(rt; is_only(&copy, values.as_slice(), i), "at {i}");
+    }
+    Ok(())
+}
+
+/// Slices of values are the same as their copies, and as no others of the same length.
+#[test]
+fn slices_are_copied(rt: HostRuntime) -> Result<(), Fail> {
+    let values = values(rt.alloc())?;
+    let copies = Value::copies(rt.alloc(), values.as_slice())?;
+    assert!(rt; values.len() == 5 && copies.len() == 5);
+    assert!(rt; Value::all_same(copies.as_slice(), values.as_slice()));
+    let (upto, after) = (
+        values.as_slice().split_at(4).0,
+        values.as_slice().split_at(1).1,
+    );
+    assert!(rt; !Value::all_same(upto, copies.as_slice()) && !Value::all_same(upto, after));
     Ok(())
 }
