@@ -169,7 +169,7 @@ fn row_copies(alloc: Global, tables: &[Table]) -> R<Tables>
     let mut rows = Tables::new(alloc);
     for table in tables {
         let copy = table.copy(alloc)?;
-        rows.push(copy.into_rows())?;
+        rows.push(copy.into_rows(alloc)?)?;
     }
     Ok(rows)
 }
@@ -181,7 +181,7 @@ fn rows_out(alloc: Global, mut tables: Vec<Table>) -> R<Tables>
     let mut rows = Tables::new(alloc);
     while !tables.is_empty() {
         let table = tables.remove(0);
-        rows.push(table.into_rows())?;
+        rows.push(table.into_rows(alloc)?)?;
     }
     Ok(rows)
 }
