@@ -11,26 +11,35 @@ use std::alloc::Global;
 use std::test::Fail;
 use test_builders::{key, keys_between, text_value};
 
-fn expr_is_copied(alloc: Global, expr: &Expr) -> R<bool> {
-    Ok(expr.copy(alloc)?.same(expr))
+fn expr_is_copied(alloc: Global, expr: Expr) -> R<bool> {
+    let copy = expr.copy(alloc)?;
+    Ok(copy.same(&expr))
 }
 
 /// Each kind of expression has a copy.
 #[test]
 fn expressions_are_copied(rt: HostRuntime) -> Result<(), Fail> {
     let alloc = rt.alloc();
-    assert!(rt; expr_is_copied(alloc, &Expr::Lit(Value::Null))?);
-    assert!(rt; expr_is_copied(alloc, &Expr::Lit(text_value(alloc, b"ab")?))?);
-    assert!(rt; expr_is_copied(alloc, &Expr::Cell(3))?);
-    assert!(rt; expr_is_copied(alloc, &neg(alloc, number(1))?)?);
-    assert!(rt; expr_is_copied(alloc, &add(alloc, number(1), Expr::Cell(2))?)?);
-    assert!(rt; expr_is_copied(alloc, &sub(alloc, number(1), Expr::Cell(2))?)?);
-    assert!(rt; expr_is_copied(alloc, &mul(alloc, number(1), Expr::Cell(2))?)?);
+    assert!(rt; expr_is_copied(alloc, Expr::Lit(Value::Null))?);
+    assert!(rt; expr_is_copied(alloc, Expr::Lit(text_value(alloc, b"ab")?))?);
+    assert!(rt; expr_is_copied(alloc, Expr::Cell(3))?);
     Ok(())
 }
 
-fn cond_is_copied(alloc: Global, cond: &Cond) -> R<bool> {
-    Ok(cond.copy(alloc)?.same(cond))
+/// Each kind of arithmetic has a copy.
+#[test]
+fn arithmetic_is_copied(rt: HostRuntime) -> Result<(), Fail> {
+    let alloc = rt.alloc();
+    assert!(rt; expr_is_copied(alloc, neg(alloc, number(1))?)?);
+    assert!(rt; expr_is_copied(alloc, add(alloc, number(1), Expr::Cell(2))?)?);
+    assert!(rt; expr_is_copied(alloc, sub(alloc, number(1), Expr::Cell(2))?)?);
+    assert!(rt; expr_is_copied(alloc, mul(alloc, number(1), Expr::Cell(2))?)?);
+    Ok(())
+}
+
+fn cond_is_copied(alloc: Global, cond: Cond) -> R<bool> {
+    let copy = cond.copy(alloc)?;
+    Ok(copy.same(&cond))
 }
 
 fn null_test() -> Cond {
@@ -52,12 +61,19 @@ fn whole_key(alloc: Global) -> R<Cond> {
 #[test]
 fn conditions_are_copied(rt: HostRuntime) -> Result<(), Fail> {
     let alloc = rt.alloc();
-    assert!(rt; cond_is_copied(alloc, &compare(Op::Le, Expr::Cell(1), number(2)))?);
-    assert!(rt; cond_is_copied(alloc, &whole_key(alloc)?)?);
-    assert!(rt; cond_is_copied(alloc, &null_test())?);
-    assert!(rt; cond_is_copied(alloc, &not(alloc, null_test())?)?);
-    assert!(rt; cond_is_copied(alloc, &and(alloc, null_test(), key_compare(Op::Lt, 2))?)?);
-    assert!(rt; cond_is_copied(alloc, &or(alloc, null_test(), key_compare(Op::Lt, 2))?)?);
+    assert!(rt; cond_is_copied(alloc, compare(Op::Le, Expr::Cell(1), number(2)))?);
+    assert!(rt; cond_is_copied(alloc, whole_key(alloc)?)?);
+    assert!(rt; cond_is_copied(alloc, null_test())?);
+    Ok(())
+}
+
+/// NOT, AND and OR have copies.
+#[test]
+fn joined_conditions_are_copied(rt: HostRuntime) -> Result<(), Fail> {
+    let alloc = rt.alloc();
+    assert!(rt; cond_is_copied(alloc, not(alloc, null_test())?)?);
+    assert!(rt; cond_is_copied(alloc, and(alloc, null_test(), key_compare(Op::Lt, 2))?)?);
+    assert!(rt; cond_is_copied(alloc, or(alloc, null_test(), key_compare(Op::Lt, 2))?)?);
     Ok(())
 }
 
@@ -71,8 +87,9 @@ fn signs_are_copied(rt: HostRuntime) -> Result<(), Fail> {
     Ok(())
 }
 
-fn statement_is_copied(alloc: Global, statement: &Statement) -> R<bool> {
-    Ok(statement.copy(alloc)?.same(statement))
+fn statement_is_copied(alloc: Global, statement: Statement) -> R<bool> {
+    let copy = statement.copy(alloc)?;
+    Ok(copy.same(&statement))
 }
 
 fn lock_read(alloc: Global) -> R<Statement> {
@@ -109,12 +126,19 @@ fn set_master() -> Statement {
 #[test]
 fn client_statements_are_copied(rt: HostRuntime) -> Result<(), Fail> {
     let alloc = rt.alloc();
-    assert!(rt; statement_is_copied(alloc, &insert(alloc, 1, 5)?)?);
-    assert!(rt; statement_is_copied(alloc, &replace(alloc, 1, 5)?)?);
-    assert!(rt; statement_is_copied(alloc, &delete(None))?);
-    assert!(rt; statement_is_copied(alloc, &delete(column_is(1, Value::Int(5))))?);
-    assert!(rt; statement_is_copied(alloc, &update(alloc, None)?)?);
-    assert!(rt; statement_is_copied(alloc, &lock_read(alloc)?)?);
+    assert!(rt; statement_is_copied(alloc, insert(alloc, 1, 5)?)?);
+    assert!(rt; statement_is_copied(alloc, replace(alloc, 1, 5)?)?);
+    assert!(rt; statement_is_copied(alloc, delete(None))?);
+    Ok(())
+}
+
+/// Statements with conditions have copies.
+#[test]
+fn conditional_statements_are_copied(rt: HostRuntime) -> Result<(), Fail> {
+    let alloc = rt.alloc();
+    assert!(rt; statement_is_copied(alloc, delete(column_is(1, Value::Int(5))))?);
+    assert!(rt; statement_is_copied(alloc, update(alloc, None)?)?);
+    assert!(rt; statement_is_copied(alloc, lock_read(alloc)?)?);
     Ok(())
 }
 
@@ -122,19 +146,28 @@ fn client_statements_are_copied(rt: HostRuntime) -> Result<(), Fail> {
 #[test]
 fn tool_statements_are_copied(rt: HostRuntime) -> Result<(), Fail> {
     let alloc = rt.alloc();
-    assert!(rt; statement_is_copied(alloc, &check(alloc)?)?);
-    assert!(rt; statement_is_copied(alloc, &set_master())?);
-    assert!(rt; statement_is_copied(alloc, &Statement::ClearChecks { table: 1 })?);
+    assert!(rt; statement_is_copied(alloc, check(alloc)?)?);
+    assert!(rt; statement_is_copied(alloc, set_master())?);
+    assert!(rt; statement_is_copied(alloc, Statement::ClearChecks { table: 1 })?);
     Ok(())
 }
 
-/// No two kinds of statement with the same parts are the same.
+fn differ(left: Statement, right: Statement) -> bool {
+    !left.same(&right)
+}
+
+fn insert_is_no_replace(alloc: Global) -> R<bool> {
+    let left = insert(alloc, 1, 5)?;
+    Ok(differ(left, replace(alloc, 1, 5)?))
+}
+
+/// Statements of different kinds are not the same.
 #[test]
 fn statements_are_told_apart(rt: HostRuntime) -> Result<(), Fail> {
     let alloc = rt.alloc();
-    assert!(rt; !insert(alloc, 1, 5)?.same(&replace(alloc, 1, 5)?));
-    assert!(rt; !delete(None).same(&update(alloc, None)?));
-    assert!(rt; !set_master().same(&check(alloc)?));
+    assert!(rt; insert_is_no_replace(alloc)?);
+    assert!(rt; differ(update(alloc, None)?, delete(None)));
+    assert!(rt; differ(check(alloc)?, set_master()));
     Ok(())
 }
 
@@ -169,20 +202,25 @@ fn lists_of_statements_are_copied(rt: HostRuntime) -> Result<(), Fail> {
     Ok(())
 }
 
-fn step_is_copied(alloc: Global, step: &ScriptStep) -> R<bool> {
-    Ok(step.copy(alloc)?.same(step))
+fn step_is_copied(alloc: Global, step: ScriptStep) -> R<bool> {
+    let copy = step.copy(alloc)?;
+    Ok(copy.same(&step))
+}
+
+fn steps_differ(left: ScriptStep, right: ScriptStep) -> bool {
+    !left.same(&right)
 }
 
 /// Each kind of script line has a copy.
 #[test]
 fn script_steps_are_copied(rt: HostRuntime) -> Result<(), Fail> {
     let alloc = rt.alloc();
-    assert!(rt; step_is_copied(alloc, &ScriptStep::Begin)?);
-    assert!(rt; step_is_copied(alloc, &ScriptStep::Commit)?);
-    assert!(rt; step_is_copied(alloc, &ScriptStep::Rollback)?);
-    assert!(rt; step_is_copied(alloc, &ScriptStep::Run(insert(alloc, 1, 5)?))?);
-    assert!(rt; !ScriptStep::Begin.same(&ScriptStep::Commit));
-    assert!(rt; !ScriptStep::Commit.same(&ScriptStep::Rollback));
+    assert!(rt; step_is_copied(alloc, ScriptStep::Begin)?);
+    assert!(rt; step_is_copied(alloc, ScriptStep::Commit)?);
+    assert!(rt; step_is_copied(alloc, ScriptStep::Rollback)?);
+    assert!(rt; step_is_copied(alloc, ScriptStep::Run(insert(alloc, 1, 5)?))?);
+    assert!(rt; steps_differ(ScriptStep::Begin, ScriptStep::Commit));
+    assert!(rt; steps_differ(ScriptStep::Commit, ScriptStep::Rollback));
     Ok(())
 }
 

@@ -14,6 +14,26 @@ fn walks(alloc: Global, statement: &Statement, wanted: &Span) -> R<bool> {
     Ok(reach(alloc, statement, &schema)?.same(wanted))
 }
 
+/// Whether a statement walks this one key.
+fn walks_five(alloc: Global, statement: Statement) -> R<bool> {
+    let five = keys_between(alloc, 5, 5)?;
+    walks(alloc, &statement, &five)
+}
+
+/// Whether a statement walks all keys.
+fn walks_all(alloc: Global, statement: Statement) -> R<bool> {
+    walks(alloc, &statement, &Span::whole())
+}
+
+/// Whether a statement walks no key.
+fn walks_none(alloc: Global, statement: Statement) -> R<bool> {
+    let nothing = Span {
+        lo: Edge::Low,
+        hi: Edge::Low,
+    };
+    walks(alloc, &statement, &nothing)
+}
+
 /// Whether a DELETE with the condition walks these keys.
 fn leaves(alloc: Global, cond: Cond, wanted: &Span) -> R<bool> {
     let statement = delete(Some(cond));
@@ -29,11 +49,10 @@ fn leaves_all(alloc: Global, cond: Cond) -> R<bool> {
 #[test]
 fn statements_walk_keys(rt: HostRuntime) -> Result<(), Fail> {
     let alloc = rt.alloc();
-    let five = keys_between(alloc, 5, 5)?;
-    assert!(rt; walks(alloc, &insert(alloc, 5, 1)?, &five)?);
-    assert!(rt; walks(alloc, &update(alloc, column_is(0, Value::Int(5)))?, &five)?);
-    assert!(rt; walks(alloc, &delete(column_is(1, Value::Int(5))), &Span::whole())?);
-    assert!(rt; walks(alloc, &delete(None), &Span::whole())?);
+    assert!(rt; walks_five(alloc, insert(alloc, 5, 1)?)?);
+    assert!(rt; walks_five(alloc, update(alloc, column_is(0, Value::Int(5)))?)?);
+    assert!(rt; walks_all(alloc, delete(column_is(1, Value::Int(5))))?);
+    assert!(rt; walks_all(alloc, delete(None))?);
     Ok(())
 }
 
@@ -69,19 +88,26 @@ fn between_two_and_five(alloc: Global) -> R<Span> {
     })
 }
 
+fn lock_read_meets_both(alloc: Global) -> R<bool> {
+    let read = lock_read(before_five(alloc)?, Some(key_compare(Op::Gt, 2)));
+    let wanted = between_two_and_five(alloc)?;
+    walks(alloc, &read, &wanted)
+}
+
+fn check_walks_its_span(alloc: Global) -> R<bool> {
+    let check = check(before_five(alloc)?);
+    let wanted = before_five(alloc)?;
+    walks(alloc, &check, &wanted)
+}
+
 /// A locking read walks the keys of both span and condition, CHECKSUM those of its span, and the
 /// tool's other statements none.
 #[test]
 fn spans_are_walked(rt: HostRuntime) -> Result<(), Fail> {
     let alloc = rt.alloc();
-    let read = lock_read(before_five(alloc)?, Some(key_compare(Op::Gt, 2)));
-    assert!(rt; walks(alloc, &read, &between_two_and_five(alloc)?)?);
-    assert!(rt; walks(alloc, &check(before_five(alloc)?), &before_five(alloc)?)?);
-    let nothing = Span {
-        lo: Edge::Low,
-        hi: Edge::Low,
-    };
-    assert!(rt; walks(alloc, &Statement::ClearChecks { table: 0 }, &nothing)?);
+    assert!(rt; lock_read_meets_both(alloc)?);
+    assert!(rt; check_walks_its_span(alloc)?);
+    assert!(rt; walks_none(alloc, Statement::ClearChecks { table: 0 })?);
     Ok(())
 }
 
@@ -101,15 +127,25 @@ fn of_five(alloc: Global, op: Op) -> R<Span> {
 
 const EXCHANGED: [Op; 6] = [Op::Eq, Op::Ne, Op::Gt, Op::Ge, Op::Lt, Op::Le];
 
+/// Whether the first column compared with 5 leaves the keys that the sign gives.
+fn left_narrows(alloc: Global, op: Op) -> R<bool> {
+    let wanted = of_five(alloc, op)?;
+    leaves(alloc, key_compare(op, 5), &wanted)
+}
+
+/// Whether 5 compared with the first column by the exchanged sign leaves the same ones.
+fn right_narrows(alloc: Global, op: Op, exchanged: Op) -> R<bool> {
+    let wanted = of_five(alloc, op)?;
+    leaves(alloc, compare(exchanged, number(5), Expr::Cell(0)), &wanted)
+}
+
 /// Each sign, with the column on the left and on the right.
 #[test]
 fn comparisons_narrow_either_way(rt: HostRuntime) -> Result<(), Fail> {
     let alloc = rt.alloc();
-    for i in 0..6usize {
-        let want = of_five(alloc, OPS[i])?;
-        assert!(rt; leaves(alloc, key_compare(OPS[i], 5), &want)?, "{i}");
-        let right = compare(EXCHANGED[i], number(5), Expr::Cell(0));
-        assert!(rt; leaves(alloc, right, &want)?, "{i}");
+    for (op, exchanged) in OPS.iter().zip(EXCHANGED.iter()) {
+        assert!(rt; left_narrows(alloc, *op)?);
+        assert!(rt; right_narrows(alloc, *op, *exchanged)?);
     }
     Ok(())
 }
@@ -131,11 +167,15 @@ fn after_two_to_nine(alloc: Global) -> R<Span> {
     })
 }
 
+fn nested_narrows(alloc: Global) -> R<bool> {
+    let wanted = after_two_to_nine(alloc)?;
+    leaves(alloc, nested(alloc)?, &wanted)
+}
+
 /// ANDs under ANDs narrow.
 #[test]
 fn joined_terms_narrow(rt: HostRuntime) -> Result<(), Fail> {
-    let alloc = rt.alloc();
-    assert!(rt; leaves(alloc, nested(alloc)?, &after_two_to_nine(alloc)?)?);
+    assert!(rt; nested_narrows(rt.alloc())?);
     Ok(())
 }
 
@@ -167,23 +207,43 @@ fn crossed_terms_leave_nothing(rt: HostRuntime) -> Result<(), Fail> {
     Ok(())
 }
 
-/// OR, NOT, NULL and what is no literal don't narrow.
+fn either(alloc: Global) -> R<Cond> {
+    or(alloc, key_compare(Op::Eq, 1), key_compare(Op::Eq, 2))
+}
+
+fn key_is_null() -> Cond {
+    Cond::IsNull {
+        expr: Expr::Cell(0),
+        negated: false,
+    }
+}
+
+fn key_is_sum(alloc: Global) -> R<Cond> {
+    let sum = add(alloc, number(2), number(3))?;
+    Ok(compare(Op::Eq, Expr::Cell(0), sum))
+}
+
+/// OR and NOT don't narrow.
 #[test]
 fn other_terms_narrow_nothing(rt: HostRuntime) -> Result<(), Fail> {
     let alloc = rt.alloc();
-    let either = or(alloc, key_compare(Op::Eq, 1), key_compare(Op::Eq, 2))?;
-    assert!(rt; leaves_all(alloc, either)?);
-    let opposite = not(alloc, key_compare(Op::Ne, 1))?;
-    assert!(rt; leaves_all(alloc, opposite)?);
-    let null = compare(Op::Eq, Expr::Cell(0), Expr::Lit(Value::Null));
-    assert!(rt; leaves_all(alloc, null)?);
-    let sum = add(alloc, number(2), number(3))?;
-    assert!(rt; leaves_all(alloc, compare(Op::Eq, Expr::Cell(0), sum))?);
-    let is_null = Cond::IsNull {
-        expr: Expr::Cell(0),
-        negated: false,
-    };
-    assert!(rt; leaves_all(alloc, is_null)?);
+    assert!(rt; leaves_all(alloc, either(alloc)?)?);
+    assert!(rt; leaves_all(alloc, not(alloc, key_compare(Op::Ne, 1))?)?);
+    Ok(())
+}
+
+/// NULL and what is no literal don't narrow.
+#[test]
+fn other_sides_narrow_nothing(rt: HostRuntime) -> Result<(), Fail> {
+    let alloc = rt.alloc();
+    assert!(rt; leaves_all(alloc, key_is_sum(alloc)?)?);
+    assert!(rt;
+        leaves_all(
+            alloc,
+            compare(Op::Eq, Expr::Cell(0), Expr::Lit(Value::Null))
+        )?
+    );
+    assert!(rt; leaves_all(alloc, key_is_null())?);
     Ok(())
 }
 
@@ -227,11 +287,20 @@ fn leaves_of_two(alloc: Global, cond: Cond, wanted: &Span) -> R<bool> {
     walks_of_two(alloc, &statement, wanted)
 }
 
+fn whole_key_narrows(alloc: Global) -> R<bool> {
+    let wanted = keys_between_rows(alloc)?;
+    leaves_of_two(alloc, between_rows(alloc)?, &wanted)
+}
+
+fn first_column_narrows_nothing(alloc: Global) -> R<bool> {
+    leaves_of_two(alloc, key_compare(Op::Eq, 1), &Span::whole())
+}
+
 /// Comparisons of the whole key narrow, and one of its first column alone doesn't.
 #[test]
 fn row_comparisons_narrow(rt: HostRuntime) -> Result<(), Fail> {
     let alloc = rt.alloc();
-    assert!(rt; leaves_of_two(alloc, between_rows(alloc)?, &keys_between_rows(alloc)?)?);
-    assert!(rt; leaves_of_two(alloc, key_compare(Op::Eq, 1), &Span::whole())?);
+    assert!(rt; whole_key_narrows(alloc)?);
+    assert!(rt; first_column_narrows_nothing(alloc)?);
     Ok(())
 }
