@@ -45,8 +45,9 @@ pub fn some_span(alloc: Global) -> R<Span> {
 pub fn has_lines(alloc: Global, summary: &Summary, lines: &[u8]) -> R<bool> {
     let text = report(alloc, summary)?;
     let mut expected = Vec::from_slice(alloc, b"PTC REPORT 1\n")?;
-    expected
-        .extend_from_slice(b"TABLE t (a BIGINT KEY, b VARCHAR(4) KEY, v INT NOT NULL, w INT)\n")?;
+    expected.extend_from_slice(
+        b"TABLE t (a BIGINT KEY, b VARCHAR(4) KEY, v INT NOT NULL, w INT)\n",
+    )?;
     expected.extend_from_slice(lines)?;
     expected.extend_from_slice(b"STATUS 0\n")?;
     Ok(text.as_slice() == expected.as_slice())

@@ -20,7 +20,13 @@ fn rows_are_put(rt: HostRuntime) -> Result<(), Fail> {
         table: 0,
         row: row_of_text(alloc, -1, b"it's ''so''")?,
     };
-    assert!(rt; is_written(alloc, &insert, b"INSERT INTO t VALUES (-1, 'it''s ''''so''''')")?);
+    assert!(rt;
+        is_written(
+            alloc,
+            &insert,
+            b"INSERT INTO t VALUES (-1, 'it''s ''''so''''')"
+        )?
+    );
     let replace = Statement::Replace {
         table: 0,
         row: null_row(alloc, 1)?,
@@ -122,9 +128,11 @@ fn master(kind: DigestKind) -> Statement {
 #[test]
 fn masters_are_set(rt: HostRuntime) -> Result<(), Fail> {
     let alloc = rt.alloc();
-    let text = b"SETMASTER t CHUNK 2 CNT 18446744073709551615 CRC 'abababababababababababababababab'";
+    let text =
+        b"SETMASTER t CHUNK 2 CNT 18446744073709551615 CRC 'abababababababababababababababab'";
     assert!(rt; is_written(alloc, &master(DigestKind::Md5), text)?);
-    let text = b"SETMASTER t CHUNK 2 CNT 18446744073709551615 CRC 'abababababababababababababababababababab'";
+    let text =
+        b"SETMASTER t CHUNK 2 CNT 18446744073709551615 CRC 'abababababababababababababababababababab'";
     assert!(rt; is_written(alloc, &master(DigestKind::Sha1), text)?);
     Ok(())
 }
