@@ -21,18 +21,28 @@ fn mul(alloc: Global, left: Expr, right: Expr) -> R<Expr> {
     Ok(Expr::Mul(Boxed::new(alloc, left)?, Boxed::new(alloc, right)?))
 }
 
-/// Whether the expression is written so, set to the column v.
-fn expr_is(alloc: Global, expr: Expr, text: &[u8]) -> R<bool> {
+/// The UPDATE that sets the column v to the expression.
+fn update_to(alloc: Global, expr: Expr) -> R<Statement> {
     let mut sets = Sets::new(alloc);
     sets.push(Assignment { column: 2, expr })?;
-    let update = Statement::Update {
+    Ok(Statement::Update {
         table: 0,
         sets,
         cond: None,
-    };
-    let mut expected = Vec::from_slice(alloc, b"UPDATE t SET v = ")?;
+    })
+}
+
+/// Whether the statement is written as these two texts, one after the other.
+fn is_both(alloc: Global, statement: &Statement, start: &[u8], text: &[u8]) -> R<bool> {
+    let mut expected = Vec::from_slice(alloc, start)?;
     expected.extend_from_slice(text)?;
-    is_written(alloc, &update, expected.as_slice())
+    is_written(alloc, statement, expected.as_slice())
+}
+
+/// Whether the expression is written so, set to the column v.
+fn expr_is(alloc: Global, expr: Expr, text: &[u8]) -> R<bool> {
+    let update = update_to(alloc, expr)?;
+    is_both(alloc, &update, b"UPDATE t SET v = ", text)
 }
 
 /// Operands that are neither literals nor columns stand in parentheses, and a number from 0 on after a
@@ -82,9 +92,7 @@ fn cond_is(alloc: Global, cond: Cond, text: &[u8]) -> R<bool> {
         table: 0,
         cond: Some(cond),
     };
-    let mut expected = Vec::from_slice(alloc, b"DELETE FROM t WHERE ")?;
-    expected.extend_from_slice(text)?;
-    is_written(alloc, &delete, expected.as_slice())
+    is_both(alloc, &delete, b"DELETE FROM t WHERE ", text)
 }
 
 /// An AND or OR under another stands in parentheses, but for a left one of the same word.

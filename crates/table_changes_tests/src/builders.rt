@@ -1,4 +1,4 @@
-ghost use Rattle.std.specs.Prelude.{◌≡◌, IfOk};
+ghost use Rattle.std.specs.Prelude.{◌≡◌, [], ◌∷◌, IfOk};
 ghost use Rattle.ptc_statement.specs.Fits.{StatementFits, WhereFits};
 ghost use Rattle.table_changes_tests.specs.TestTable.{pairs, three_rows};
 
