@@ -13,7 +13,7 @@ use Rattle.row_types.specs.declared.table_schema.Schema.{Schema}
 use Rattle.row_types.specs.declared.edges.Span.{Span}
 use Rattle.row_types.specs.Fit.{key_of, IsSchema, IsTable, AreTables, ValuesFit, ValueFits, TextFits, KindFits, LengthFits}
 use Rattle.row_types.specs.Faults.{TextIsShort}
-use Rattle.ordered_table.specs.KeyRows.{row_at, rows_in}
+use Rattle.row_types.specs.KeyRows.{row_at, rows_in}
 use Rattle.ordered_table.specs.TableView.{TableView}
 use Rattle.ptc_statement.specs.declared.statements.Statement.{Statement}
 use Rattle.ptc_statement.specs.Effect.{table_of, rows_after}

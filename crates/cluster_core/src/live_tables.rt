@@ -1,7 +1,7 @@
 ghost use Rattle.std.specs.Prelude.{◌≡◌, length, is_some, option_copied, slice_get, map, IfOk, OnOk, OnErr};
 ghost use Rattle.std.specs.List.{AllByRecursion};
 ghost use Rattle.row_types.specs.Fit.{IsSchema, AreTables};
-ghost use Rattle.ordered_table.specs.KeyRows.{rows_in};
+ghost use Rattle.row_types.specs.KeyRows.{rows_in};
 ghost use Rattle.ptc_statement.specs.Effect.{rows_after};
 ghost use Rattle.ptc_statement.specs.Fits.{FitsSchemas, StatementFits};
 ghost use Rattle.row_digest.specs.Encoding.{IsEncodable};

@@ -1,10 +1,6 @@
 pub mod CutLemmas
-pub mod OrderedLemmas
 pub mod PlaceLemmas
-pub mod LawLemmas
 pub mod NeighbourLemmas
-pub mod SchemaLemmas
-pub mod SameLemmas
 pub mod SizeLemmas
 pub mod PageOfLemmas
 pub mod SearchLemmas

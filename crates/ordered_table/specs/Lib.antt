@@ -1,4 +1,3 @@
-pub mod KeyRows
 pub mod Places
 pub mod Neighbours
 pub mod TableView

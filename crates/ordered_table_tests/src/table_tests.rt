@@ -278,7 +278,7 @@ fn rising(ahead: RowsAhead) -> Option<usize> {
 }
 
 /// A table of copies of a table's rows.
-#[tactic(auto, using(ordered_table::proofs::OrderedLemmas::filter_ordered))]
+#[tactic(auto, using(row_types::proofs::OrderedRowLemmas::filter_ordered))]
 fn copy_of(alloc: Global, table: &Table) -> R<Table> {
     let rows = table.rows(alloc, &Span::whole())?;
     if rows.len() != table.len() {

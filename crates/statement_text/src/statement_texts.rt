@@ -1,13 +1,14 @@
 //! How statements are written.
 ghost use Rattle.std.specs.Prelude.{◌≡◌, ◌++◌, OnOk, OnErr};
 ghost use Rattle.statement_text.specs.StatementTexts.{where_text, assignment_text, assignments_on, assignments_text, insert_word, replace_word, select_word, lock_text, delete_word, chunk_text, summed_text, master_text, clear_word, statement_text};
+ghost use Rattle.ptc_statement.specs.declared.statements.Statement.TheVariants.{Insert, Replace, Delete, Update, Check, SetMaster};
 ghost use Rattle.statement_text.specs.Written.{Appended};
 
 use crate::texts::push_bytes;
 use crate::writers::Writer;
 use ptc_statement::{Assignment, Cond, Statement};
 use row_digest::crc_text;
-use row_types::{Digest, DigestKind, LockMode, R, Schemas, Span};
+use row_types::{Digest, DigestKind, LockMode, R, Schemas, Span, Value};
 use std::alloc::Global;
 
 /// Appends the canonical text of a statement. A refusal of memory leaves the text as it was.
@@ -146,35 +147,75 @@ impl<'a> Writer<'a> {
         self.push_bytes(b"CLEARCHECKS ")
     }
 
+    #[tactic(auto, unfolding(crate::specs::StatementTexts::statement_text))]
+    fn push_insert(&mut self, table: u32, row: &[Value]) -> R<()>
+        ensures { OnOk result (Appended (statement_text self.old.schemas (Insert table row.now)) self.old self.new) }
+    {
+        self.push_insert_word()?;
+        self.push_name(table as usize)?;
+        self.push_bytes(b" VALUES ")?;
+        self.push_tuple(row)
+    }
+
+    #[tactic(auto, unfolding(crate::specs::StatementTexts::statement_text))]
+    fn push_replace(&mut self, table: u32, row: &[Value]) -> R<()>
+        ensures { OnOk result (Appended (statement_text self.old.schemas (Replace table row.now)) self.old self.new) }
+    {
+        self.push_replace_word()?;
+        self.push_name(table as usize)?;
+        self.push_bytes(b" VALUES ")?;
+        self.push_tuple(row)
+    }
+
+    #[tactic(auto, unfolding(crate::specs::StatementTexts::statement_text))]
+    fn push_delete(&mut self, table: u32, cond: &Option<Cond>) -> R<()>
+        ensures { OnOk result (Appended (statement_text self.old.schemas (Delete table cond.now)) self.old self.new) }
+    {
+        self.push_delete_word()?;
+        self.push_name(table as usize)?;
+        self.push_where(table, cond)
+    }
+
+    #[tactic(auto, unfolding(crate::specs::StatementTexts::statement_text))]
+    fn push_update(&mut self, table: u32, sets: &[Assignment], cond: &Option<Cond>) -> R<()>
+        ensures { OnOk result (Appended (statement_text self.old.schemas (Update table sets.now cond.now)) self.old self.new) }
+    {
+        self.push_bytes(b"UPDATE ")?;
+        self.push_name(table as usize)?;
+        self.push_bytes(b" SET ")?;
+        self.push_assignments(table, sets)?;
+        self.push_where(table, cond)
+    }
+
+    #[tactic(auto, unfolding(crate::specs::StatementTexts::statement_text))]
+    fn push_check(&mut self, table: u32, chunk: u32, span: &Span, kind: DigestKind) -> R<()>
+        ensures { OnOk result (Appended (statement_text self.old.schemas (Check table chunk span.now kind)) self.old self.new) }
+    {
+        self.push_bytes(b"CHECKSUM ")?;
+        self.push_chunk(table, chunk)?;
+        self.push_summed(span, kind)
+    }
+
+    #[tactic(auto, unfolding(crate::specs::StatementTexts::statement_text))]
+    fn push_set_master(&mut self, table: u32, chunk: u32, kind: DigestKind, master: &Digest) -> R<()>
+        ensures { OnOk result (Appended (statement_text self.old.schemas (SetMaster table chunk kind master.now)) self.old self.new) }
+    {
+        self.push_bytes(b"SETMASTER ")?;
+        self.push_chunk(table, chunk)?;
+        self.push_master(kind, master)
+    }
+
     /// Appends the canonical text of a statement.
     #[tactic(auto, unfolding(crate::specs::StatementTexts::statement_text))]
     pub fn push_statement(&mut self, statement: &Statement) -> R<()>
         ensures { OnOk result (Appended (statement_text self.old.schemas statement.now) self.old self.new) }
     {
         match statement {
-            Statement::Insert { table, row } => {
-                self.push_insert_word()?;
-                self.push_name(*table as usize)?;
-                self.push_bytes(b" VALUES ")?;
-                self.push_tuple(row.as_slice())
-            }
-            Statement::Replace { table, row } => {
-                self.push_replace_word()?;
-                self.push_name(*table as usize)?;
-                self.push_bytes(b" VALUES ")?;
-                self.push_tuple(row.as_slice())
-            }
-            Statement::Delete { table, cond } => {
-                self.push_delete_word()?;
-                self.push_name(*table as usize)?;
-                self.push_where(*table, cond)
-            }
+            Statement::Insert { table, row } => self.push_insert(*table, row.as_slice()),
+            Statement::Replace { table, row } => self.push_replace(*table, row.as_slice()),
+            Statement::Delete { table, cond } => self.push_delete(*table, cond),
             Statement::Update { table, sets, cond } => {
-                self.push_bytes(b"UPDATE ")?;
-                self.push_name(*table as usize)?;
-                self.push_bytes(b" SET ")?;
-                self.push_assignments(*table, sets.as_slice())?;
-                self.push_where(*table, cond)
+                self.push_update(*table, sets.as_slice(), cond)
             }
             Statement::LockRead {
                 table,
@@ -192,21 +233,13 @@ impl<'a> Writer<'a> {
                 chunk,
                 span,
                 kind,
-            } => {
-                self.push_bytes(b"CHECKSUM ")?;
-                self.push_chunk(*table, *chunk)?;
-                self.push_summed(span, *kind)
-            }
+            } => self.push_check(*table, *chunk, span, *kind),
             Statement::SetMaster {
                 table,
                 chunk,
                 kind,
                 master,
-            } => {
-                self.push_bytes(b"SETMASTER ")?;
-                self.push_chunk(*table, *chunk)?;
-                self.push_master(*kind, master)
-            }
+            } => self.push_set_master(*table, *chunk, *kind, master),
             Statement::ClearChecks { table } => {
                 self.push_clear_word()?;
                 self.push_name(*table as usize)

@@ -3,9 +3,9 @@ use Rattle.std.proofs.Common.{◌≡◌, ◌∙◌, ℕ, ◌+◌, ◌-◌, ◌�
 use Rattle.std.specs.Prelude.{is_some, if◌then◌else◌}
 use Rattle.std.specs.List.{AllByRecursion}
 use Rattle.row_types.specs.declared.values.Value.{Value}
-use Rattle.ordered_table.specs.KeyRows.{AreOrdered, is_at}
+use Rattle.row_types.specs.KeyRows.{AreOrdered, is_at}
 use Rattle.ordered_table.specs.TableView.{TableView}
-use Rattle.ordered_table.proofs.OrderedLemmas.{put_ordered, filter_ordered}
+use Rattle.row_types.proofs.OrderedRowLemmas.{put_ordered, filter_ordered}
 use Rattle.table_changes.specs.declared.row_changes.RowChange.{RowChange}
 use Rattle.table_changes.specs.declared.row_changes.RowChange.TheVariants.{Gone, Put}
 use Rattle.table_changes.specs.RowChanges.{row_changed, done, room_of, room_for, ChangeHasKey}

@@ -14,11 +14,11 @@ use Rattle.ptc_statement.specs.Fits.{StatementFits}
 use Rattle.ptc_statement.proofs.ActLemmas.{acts_at}
 use Rattle.ptc_statement.proofs.TableLemmas.{rows_after_table}
 use Rattle.ptc_statement.proofs.KeyLemmas.{just_itself}
-use Rattle.ordered_table.specs.KeyRows.{AreOrdered, is_at, row_at, rows_in, put_row}
-use Rattle.ordered_table.proofs.LawLemmas.{same_key, put_at}
-use Rattle.ordered_table.proofs.OrderedLemmas.{filter_ordered}
-use Rattle.ordered_table.proofs.SchemaLemmas.{fitting_key, table_ordered}
-use Rattle.ordered_table.proofs.SameLemmas.{same_rows}
+use Rattle.row_types.specs.KeyRows.{AreOrdered, is_at, row_at, rows_in, put_row}
+use Rattle.row_types.proofs.KeyRowLemmas.{same_key, put_at}
+use Rattle.row_types.proofs.OrderedRowLemmas.{filter_ordered}
+use Rattle.row_types.proofs.SchemaRowLemmas.{fitting_key, table_ordered}
+use Rattle.row_types.proofs.SameRowLemmas.{same_rows}
 use Rattle.table_changes.specs.declared.row_changes.RowChange.{RowChange}
 use Rattle.table_changes.specs.declared.row_changes.RowChange.TheVariants.{Put}
 use Rattle.table_changes.specs.declared.table_changes.TableChange.{TableChange}

@@ -13,11 +13,11 @@ use Rattle.ptc_statement.specs.Reach.{reach_of}
 use Rattle.ptc_statement.specs.Effect.{effect, effect_within}
 use Rattle.ptc_statement.specs.Fits.{StatementFits}
 use Rattle.ptc_statement.proofs.KeepLemmas.{LeftKeeps, effect_keeps}
-use Rattle.ordered_table.specs.KeyRows.{AreOrdered, is_at, row_at, rows_in}
-use Rattle.ordered_table.proofs.LawLemmas.{same_key, put_at, removed_gone, removed_elsewhere, part_at}
-use Rattle.ordered_table.proofs.OrderedLemmas.{filter_ordered}
-use Rattle.ordered_table.proofs.SchemaLemmas.{fitting_key, table_ordered}
-use Rattle.ordered_table.proofs.SameLemmas.{none_behind, all_found}
+use Rattle.row_types.specs.KeyRows.{AreOrdered, is_at, row_at, rows_in}
+use Rattle.row_types.proofs.KeyRowLemmas.{same_key, put_at, removed_gone, removed_elsewhere, part_at}
+use Rattle.row_types.proofs.OrderedRowLemmas.{filter_ordered}
+use Rattle.row_types.proofs.SchemaRowLemmas.{fitting_key, table_ordered}
+use Rattle.row_types.proofs.SameRowLemmas.{none_behind, all_found}
 use Rattle.table_changes.specs.declared.row_changes.RowChange.{RowChange}
 use Rattle.table_changes.specs.declared.row_changes.RowChange.TheVariants.{Gone, Put}
 use Rattle.table_changes.specs.RowChanges.{row_changed, done, room_of, room_for, ChangeHasKey, is_same, changes_to, changes_within}

@@ -1,6 +1,6 @@
 use Rattle.std.proofs.Common.{◌≡◌, ◌<◌, ◌+◌, ◌^◌, length}
 use Rattle.std.specs.List.{AllByRecursion}
-use Rattle.ordered_table.specs.KeyRows.{rows_in}
+use Rattle.row_types.specs.KeyRows.{rows_in}
 use Rattle.row_digest.specs.Encoding.{IsEncodable}
 use Rattle.row_digest.specs.Digest.{added_rows, digest_of}
 use Rattle.cluster_core.proofs.live_tables.digest_rows.Given as goal

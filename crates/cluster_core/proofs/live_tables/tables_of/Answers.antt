@@ -3,9 +3,9 @@ use Rattle.std.specs.List.{slice_get}
 use Rattle.std.proofs.lemmas.List.{take_all}
 use Rattle.row_types.specs.declared.values.Value.{Value}
 use Rattle.row_types.specs.declared.table_schema.Schema.{Schema}
-use Rattle.ordered_table.specs.KeyRows.{AreOrdered}
+use Rattle.row_types.specs.KeyRows.{AreOrdered}
 use Rattle.ordered_table.specs.TableView.{TableView}
-use Rattle.ordered_table.proofs.SchemaLemmas.{table_ordered}
+use Rattle.row_types.proofs.SchemaRowLemmas.{table_ordered}
 use Rattle.table_changes.specs.Plans.{IsSound}
 use Rattle.cluster_core.specs.LiveTables.{rows_of_each}
 use Rattle.cluster_core.specs.LiveParts.{AreSound}

@@ -1,5 +1,5 @@
 use Rattle.std.proofs.Common.{◌≡◌, ◌++◌, length}
-use Rattle.ordered_table.specs.KeyRows.{rows_in}
+use Rattle.row_types.specs.KeyRows.{rows_in}
 use Rattle.table_changes.specs.RowChanges.{changes_within}
 use Rattle.table_changes.proofs.table_changes.changes_in.Given as goal
 

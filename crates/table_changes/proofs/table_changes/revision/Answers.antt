@@ -1,6 +1,6 @@
 use Rattle.std.proofs.Common.{◌∙◌, ap}
 use Rattle.row_types.specs.declared.edges.Span.{Span}
-use Rattle.ordered_table.specs.KeyRows.{rows_in}
+use Rattle.row_types.specs.KeyRows.{rows_in}
 use Rattle.table_changes.specs.RowChanges.{changes_within}
 use Rattle.table_changes.proofs.DueLemmas.{revision_due}
 use Rattle.table_changes.proofs.table_changes.revision.Goals as goal
