@@ -197,7 +197,13 @@ impl<'a> Writer<'a> {
     }
 
     #[tactic(auto, unfolding(crate::specs::StatementTexts::statement_text))]
-    fn push_set_master(&mut self, table: u32, chunk: u32, kind: DigestKind, master: &Digest) -> R<()>
+    fn push_set_master(
+        &mut self,
+        table: u32,
+        chunk: u32,
+        kind: DigestKind,
+        master: &Digest,
+    ) -> R<()>
         ensures { OnOk result (Appended (statement_text self.old.schemas (SetMaster table chunk kind master.now)) self.old self.new) }
     {
         self.push_bytes(b"SETMASTER ")?;
