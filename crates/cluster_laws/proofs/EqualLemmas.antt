@@ -1,5 +1,5 @@
--- A table whose verdicts on a replica are all SAME, by digests that distinguish, is told as EQUAL.
-use Rattle.std.proofs.Common.{◌≡◌, ℕ, zero, suc, ◌-◌, ◌<◌, ◌≤◌, Bool, true, false, cond, List, [], ◌∷◌, length, Option, None, Some, refl, ap, ◌∙◌, sym, subst, arith}
+-- A table whose verdicts on a replica are all SAME, by digests that distinguish, is EQUAL at the log's end.
+use Rattle.std.proofs.Common.{◌≡◌, ℕ, zero, suc, ◌+◌, ◌-◌, ◌<◌, ◌≤◌, Bool, true, false, cond, List, [], ◌∷◌, length, Option, None, Some, refl, ap, ◌∙◌, sym, subst, arith}
 use Rattle.std.specs.Prelude.{filter, take, slice_index_or}
 use Rattle.std.specs.List.{AllByRecursion, slice_get}
 use Rattle.std.specs.Option.{option_map_or}
@@ -18,11 +18,12 @@ use Rattle.history.specs.Headline.{DigestsDistinguish, behind_applied, LeavesTab
 use Rattle.history.proofs.EqualLemmas.{stay_equal}
 use Rattle.cluster_core.specs.Node.{NodeView, replayed_of}
 use Rattle.cluster_core.specs.World.{WorldView, whole_table}
-use Rattle.cluster_core.specs.Summary.{verdicts_of}
+use Rattle.cluster_core.specs.Summary.{verdicts_of, equals_of, rows_equal}
 use Rattle.report_text.specs.declared.summaries.VerdictLine.{VerdictLine}
-use Rattle.cluster_core.proofs.EachLemmas.{each_more, slice_get_none}
+use Rattle.cluster_core.proofs.EachLemmas.{each_more, each_at, slice_get_none}
 use Rattle.cluster_core.proofs.OrderLemmas.{rows_equal_exact}
-use Rattle.cluster_laws.specs.Headline.{log_of, source_rows_at, replica_rows_at, LineHolds, IsOfWholeTable, HasLine, IsApplying, AppliedAll, IsDistinguished, is_told_equal, SameIsEqual}
+use Rattle.cluster_laws.proofs.EqualLineLemmas.{count_replayed, each_table_line, each_replica_line, replica_has_equal_line}
+use Rattle.cluster_laws.specs.Headline.{log_of, source_rows_at, replica_rows_at, LineHolds, IsOfWholeTable, HasLine, IsApplying, AppliedAll, IsDistinguished, IsAllSame, HasEqualLine, SameIsEqual}
 
 -- a replica at the end of a run, at its place
 pub record Ended (schemas : List Schema) (log : List Entry) (node : NodeView) : Type 0 where
@@ -104,7 +105,7 @@ equal_by_line : (w : WorldView) (node : NodeView) (line : VerdictLine) (table : 
     → holds.node ≡ node
     → line.verdict ≡ Same
     → IsDistinguished w node line
-    → is_told_equal w node table ≡ true
+    → rows_equal (table_rows (replayed_of w.source).tables table) (table_rows (replayed_of node).tables table) ≡ true
 equal_by_line w node line table ended starts lt of_table whole holds is_node same distinguished =
     let schemas : List Schema = w.source.schemas in
     let in_log : line.position ≤ length w.source.history = holds.in_log in
@@ -129,20 +130,57 @@ same_node nodes place one other first second =
     let same : Some one ≡ Some other = sym first ∙ second in
     cc
 
-pub same_is_equal : (w : WorldView)
-    → ((replica table : ℕ) → 1 ≤ replica → replica ≤ length w.replicas → table < length w.source.schemas → HasLine (verdicts_of w) replica table)
-    → AllByRecursion (LineHolds w) (verdicts_of w)
-    → AllByRecursion IsOfWholeTable (verdicts_of w)
-    → ((node : NodeView) (replica : ℕ) → slice_get w.replicas (replica - 1) ≡ Some node → Ended w.source.schemas w.source.history node)
-    → ((node : NodeView) (place : ℕ) → slice_get w.replicas place ≡ Some node → length w.source.start ≡ length node.start)
-    → SameIsEqual w
-same_is_equal w lines hold whole ended starts replica table node from_one found lt all_same =
+-- what is known of the lines of a finished run
+pub record LinesHold (w : WorldView) : Type 0 where
+  pub each_table : (replica table : ℕ) → 1 ≤ replica → replica ≤ length w.replicas → table < length w.source.schemas → HasLine (verdicts_of w) replica table
+  pub hold : AllByRecursion (LineHolds w) (verdicts_of w)
+  pub whole : AllByRecursion IsOfWholeTable (verdicts_of w)
+  pub ended : AllByRecursion (Ended w.source.schemas w.source.history) w.replicas
+  -- each node starts with a table for each schema
+  pub start : length w.source.start ≡ length w.source.schemas
+  pub starts : AllByRecursion (λ (node : NodeView). length node.start ≡ length w.source.schemas) w.replicas
+
+table_is_equal : (w : WorldView) → LinesHold w → (replica table : ℕ) (node : NodeView)
+    → 1 ≤ replica
+    → slice_get w.replicas (replica - 1) ≡ Some node
+    → table < length w.source.schemas
+    → IsAllSame w replica node table
+    → rows_equal (table_rows (replayed_of w.source).tables table) (table_rows (replayed_of node).tables table) ≡ true
+table_is_equal w lines replica table node from_one found lt all_same =
     let within : replica - 1 < length w.replicas = slice_get_within w.replicas (replica - 1) node found in
-    let has : HasLine (verdicts_of w) replica table = lines replica table from_one (omega (arith, within, from_one)) lt in
+    let has : HasLine (verdicts_of w) replica table = lines.each_table replica table from_one (omega (arith, within, from_one)) lt in
     let line : VerdictLine = has.line in
-    let holds : LineHolds w line = each_contained (LineHolds w) (verdicts_of w) has.among.0 line line hold has.among.1 has.among.2 in
-    let of_whole : IsOfWholeTable line = each_contained IsOfWholeTable (verdicts_of w) has.among.0 line line whole has.among.1 has.among.2 in
+    let holds : LineHolds w line = each_contained (LineHolds w) (verdicts_of w) has.among.0 line line lines.hold has.among.1 has.among.2 in
+    let of_whole : IsOfWholeTable line = each_contained IsOfWholeTable (verdicts_of w) has.among.0 line line lines.whole has.among.1 has.among.2 in
     let says = all_same line has.among has.of_replica has.of_table in
     let there : slice_get w.replicas (replica - 1) ≡ Some holds.node = subst (λ n. slice_get w.replicas (n - 1) ≡ Some holds.node) has.of_replica holds.found in
-    equal_by_line w node line table (ended node replica found) (starts node (replica - 1) found) lt has.of_table of_whole.whole holds
+    let own_start : length node.start ≡ length w.source.schemas = each_at (λ (n : NodeView). length n.start ≡ length w.source.schemas) w.replicas (replica - 1) node lines.starts found in
+    equal_by_line w node line table (each_at (Ended w.source.schemas w.source.history) w.replicas (replica - 1) node lines.ended found)
+    (lines.start ∙ sym own_start) lt has.of_table of_whole.whole holds
     (same_node w.replicas (replica - 1) holds.node node there found) says.0 says.1
+
+-- how many tables a node has at the log's end
+source_count : (w : WorldView) → LinesHold w → length (replayed_of w.source).tables ≡ length w.source.schemas
+source_count w lines = count_replayed w.source.schemas 1 w.source.history (record { tables = w.source.start; checks = [] }) ∙ lines.start
+
+pub same_is_equal : (w : WorldView) → LinesHold w → AllByRecursion (SameIsEqual w) (equals_of w)
+same_is_equal w lines =
+    let source : TableRows = (replayed_of w.source).tables in
+    each_replica_line (SameIsEqual w) 1 source w.replicas (λ k node found.
+    each_table_line (SameIsEqual w) (1 + k) 0 source (replayed_of node).tables (λ table lt other at all_same.
+    let within : table < length w.source.schemas = subst (λ (n : ℕ). table < n) (source_count w lines) lt in
+    let place : 1 + k - 1 ≡ k = omega arith in
+    let number : 0 + table ≡ table = omega arith in
+    let same : other ≡ node = same_node w.replicas k other node (subst (λ (n : ℕ). slice_get w.replicas n ≡ Some other) place at) found in
+    subst (λ (n : NodeView). rows_equal (table_rows source table) (table_rows (replayed_of n).tables table) ≡ true) same
+    (table_is_equal w lines (1 + k) table other (omega arith) at within (subst (λ (n : ℕ). IsAllSame w (1 + k) other n) number all_same))))
+
+pub each_equal_line : (w : WorldView) → LinesHold w
+    → (replica table : ℕ) → 1 ≤ replica → replica ≤ length w.replicas → table < length w.source.schemas → HasEqualLine (equals_of w) replica table
+each_equal_line w lines replica table from_one most within =
+    let count : length (replayed_of w.source).tables ≡ length w.source.schemas = source_count w lines in
+    replica_has_equal_line 1 (replica - 1) replica table (replayed_of w.source).tables w.replicas (omega (arith, from_one)) (omega (arith, from_one, most))
+    (subst (λ (n : ℕ). table < n) (sym count) within)
+    (each_more (λ (node : NodeView). length node.start ≡ length w.source.schemas) (λ (node : NodeView). length (replayed_of w.source).tables ≡ length (replayed_of node).tables) w.replicas
+    (λ node own. count ∙ sym own ∙ sym (count_replayed node.schemas 1 node.history (record { tables = node.start; checks = [] })))
+    lines.starts)

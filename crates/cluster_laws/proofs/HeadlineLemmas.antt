@@ -3,7 +3,7 @@ use Rattle.std.proofs.Common.{◌≡◌, ◌≢◌, ◌⊎◌, ℕ, zero, suc, �
 use Rattle.std.specs.Prelude.{slice_set, unwrap_or, option_and_then}
 use Rattle.std.specs.List.{AllByRecursion, slice_get}
 use Rattle.std.proofs.Math.ListN.{length-set}
-use Rattle.std.proofs.lemmas.Option.{slice_get_within, slice_get-map}
+use Rattle.std.proofs.lemmas.Option.{slice_get_within}
 use Rattle.row_types.specs.KeyRows.{Rows, TableRows}
 use Rattle.row_types.specs.declared.digests.Digest.{Digest}
 use Rattle.row_types.specs.declared.digests.DigestKind.TheVariants.{Md5}
@@ -46,7 +46,7 @@ use Rattle.cluster_core.proofs.EachLemmas.{each_more, each_append, each_first, e
 use Rattle.cluster_core.proofs.KeptLemmas.{schedule_numbered}
 use Rattle.cluster_laws.proofs.MasterLemmas.{IsMastered, SameMasters, IsThere, same_masters, mastered_there, each_placed, mastered_known}
 use Rattle.cluster_laws.proofs.RefusalLemmas.{refused_kept, refused_begun, refused_at, refused_set, refused_done, refused_more, truly_more, tools_entry, truly_alone}
-use Rattle.cluster_laws.proofs.EqualLemmas.{Ended, same_is_equal}
+use Rattle.cluster_laws.proofs.EqualLemmas.{Ended, LinesHold, each_equal_line, same_is_equal}
 use Rattle.cluster_core.proofs.MoveLemmas.{did_line, line_logged, line_refused, line_done, line_done_either}
 use Rattle.cluster_laws.proofs.SessionLemmas.{EachSession, SessionHolds, next_line, logged_by_own, logged_by_other, own_number, other_number, session_logged, session_refused, sessions_begun, sessions_at, sessions_kept, sessions_set, sessions_ended}
 use Rattle.cluster_laws.proofs.TableLemmas.{IsWhole, RowsHold, no_rows, cleared_rows, checked_rows, published_rows, told_there, replica_has_line}
@@ -615,16 +615,19 @@ tables_each [] (rows ∷ tables) are = absurd are
 tables_each (schema ∷ schemas) [] are = absurd are
 tables_each (schema ∷ schemas) (rows ∷ tables) are = ap suc (tables_each schemas tables are.1)
 
-starts_alike : (workload : Workload) (w : WorldView) → IsWorkload workload → Holds workload w
-    → (node : NodeView) (place : ℕ) → slice_get w.replicas place ≡ Some node → length w.source.start ≡ length node.start
-starts_alike workload w is holds node place found =
+each_mapped : {A B : Type 0} (f : A → B) (P : B → Type 0) (xs : List A) → AllByRecursion P (map f xs) → AllByRecursion (λ x. P (f x)) xs
+each_mapped f P [] each = tt
+each_mapped f P (x ∷ xs) each = (each.0, each_mapped f P xs each.1)
+
+-- and so does each replica
+starts_each : (workload : Workload) (w : WorldView) → IsWorkload workload → Holds workload w
+    → AllByRecursion (λ (node : NodeView). length node.start ≡ length workload.schemas.tables) w.replicas
+starts_each workload w is holds =
     let copies : AllByRecursion (AreTables workload.schemas.tables) (map (λ (n : NodeView). n.start) w.replicas) =
     subst (AllByRecursion (AreTables workload.schemas.tables)) (sym holds.replica_starts) is.copies in
-    let copy : slice_get (map (λ (n : NodeView). n.start) w.replicas) place ≡ Some node.start =
-    slice_get-map (λ (n : NodeView). n.start) w.replicas place ∙ ap (option_map (λ (n : NodeView). n.start)) found in
-    ap length holds.source_start
-    ∙ tables_each workload.schemas.tables workload.source is.source
-    ∙ sym (tables_each workload.schemas.tables node.start (each_at (AreTables workload.schemas.tables) (map (λ (n : NodeView). n.start) w.replicas) place node.start copies copy))
+    each_more (λ (node : NodeView). AreTables workload.schemas.tables node.start) (λ (node : NodeView). length node.start ≡ length workload.schemas.tables) w.replicas
+    (λ node are. tables_each workload.schemas.tables node.start are)
+    (each_mapped (λ (n : NodeView). n.start) (AreTables workload.schemas.tables) w.replicas copies)
 
 ended_holds : (workload : Workload) (w : WorldView) → IsWorkload workload → Holds workload w → IsStill w → RunHolds workload w
 ended_holds workload w is holds still =
@@ -638,6 +641,14 @@ ended_holds workload w is holds still =
     let nodes : AllByRecursion (Ended w.source.schemas w.source.history) w.replicas =
     subst (λ (s : List Schema). AllByRecursion (Ended s w.source.history) w.replicas) (sym holds.schemas) replicas in
     let lines = lines_known w 1 w.replicas (last_all w.replicas) source nodes in
+    let equal : LinesHold w = record {
+      each_table = λ replica table from_one most within. table_has_line w replica table source nodes from_one most within;
+      hold = each_more (LineIsKnown w) (LineHolds w) (verdicts_of w) (λ line is. is.holds) lines;
+      whole = each_more (LineIsKnown w) IsOfWholeTable (verdicts_of w) (λ line is. is.whole) lines;
+      ended = nodes;
+      start = ap length holds.source_start ∙ tables_each workload.schemas.tables workload.source is.source ∙ ap length (sym holds.schemas);
+      starts = subst (λ (s : List Schema). AllByRecursion (λ (node : NodeView). length node.start ≡ length s) w.replicas) (sym holds.schemas) (starts_each workload w is holds);
+    } in
     record {
       schemas = holds.schemas;
       source_start = holds.source_start;
@@ -653,15 +664,11 @@ ended_holds workload w is holds still =
       histories = each_more (Ended workload.schemas.tables w.source.history) (AppliedAll w.source.history) w.replicas (λ node ended. ended.applied) replicas;
       finished = tool.finished;
       none_pending = each_more (LineIsKnown w) (λ (line : VerdictLine). line.verdict ≢ Pending) (verdicts_of w) (λ line is. is.known) lines;
-      verdicts = each_more (LineIsKnown w) (LineHolds w) (verdicts_of w) (λ line is. is.holds) lines;
-      whole_tables = each_more (LineIsKnown w) IsOfWholeTable (verdicts_of w) (λ line is. is.whole) lines;
-      each_table = λ replica table from_one most within. table_has_line w replica table source nodes from_one most within;
-      same_is_equal = same_is_equal w
-          (λ replica table from_one most within. table_has_line w replica table source nodes from_one most within)
-          (each_more (LineIsKnown w) (LineHolds w) (verdicts_of w) (λ line is. is.holds) lines)
-          (each_more (LineIsKnown w) IsOfWholeTable (verdicts_of w) (λ line is. is.whole) lines)
-          (λ node replica found. each_at (Ended w.source.schemas w.source.history) w.replicas (replica - 1) node nodes found)
-          (starts_alike workload w is holds);
+      verdicts = equal.hold;
+      whole_tables = equal.whole;
+      each_table = equal.each_table;
+      each_equal_line = each_equal_line w equal;
+      same_is_equal = same_is_equal w equal;
     }
 
 pub each_run : (workload : Workload) (last : WorldView) → IsWorkload workload → EndsIn (begun workload) last → RunHolds workload last

@@ -1,5 +1,6 @@
 pub mod EndLemmas
 pub mod EqualLemmas
+pub mod EqualLineLemmas
 pub mod HeadlineLemmas
 pub mod MasterLemmas
 pub mod RefusalLemmas

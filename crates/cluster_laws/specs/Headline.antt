@@ -1,5 +1,5 @@
 -- What the report of a finished run says: its log and histories, and what each printed verdict means.
-use Rattle.std.specs.Prelude.{ℕ, ◌≡◌, ◌≢◌, ◌≤◌, ◌<◌, ◌-◌, ◌↔◌, Bool, true, List, Some, length, map}
+use Rattle.std.specs.Prelude.{ℕ, ◌≡◌, ◌≢◌, ◌≤◌, ◌<◌, ◌-◌, ◌↔◌, true, List, Some, length, map}
 use Rattle.std.specs.List.{AllByRecursion, Contains, slice_get}
 use Rattle.row_types.specs.KeyRows.{Rows}
 use Rattle.row_types.specs.declared.digests.DigestKind.{DigestKind}
@@ -10,13 +10,14 @@ use Rattle.statement_log.specs.declared.origins.Origin.TheVariants.{Session, Che
 use Rattle.statement_log.specs.declared.entries.Entry.{Entry}
 use Rattle.checksum_table.specs.declared.check_rows.Verdict.TheVariants.{Same, Differ, Pending}
 use Rattle.row_digest.specs.Digest.{digest_of}
-use Rattle.history.specs.Replay.{NodeLog, table_rows, chunk_rows, source_at, replica_at, applied_of, Follows}
+use Rattle.history.specs.Replay.{NodeLog, chunk_rows, source_at, replica_at, applied_of, Follows}
 use Rattle.history.specs.Headline.{MastersAreTrue, EachIsWritten, HasStatementAt, DigestsDistinguish}
-use Rattle.cluster_core.specs.Node.{NodeView, replayed_of}
+use Rattle.cluster_core.specs.Node.{NodeView}
 use Rattle.cluster_core.specs.Sessions.{SessionView}
 use Rattle.cluster_core.specs.World.{WorldView, whole_table}
-use Rattle.cluster_core.specs.Summary.{verdicts_of, rows_equal}
+use Rattle.cluster_core.specs.Summary.{verdicts_of, equals_of}
 use Rattle.report_text.specs.declared.summaries.VerdictLine.{VerdictLine}
+use Rattle.report_text.specs.declared.summaries.EqualLine.{EqualLine}
 use Rattle.cluster_core.specs.declared.actors.ToolPhase.TheVariants.{Finished}
 use Rattle.workload_file.specs.declared.workload.Workload.{Workload}
 use Rattle.cluster_laws.specs.OwnCalls.{EachOwnCalls}
@@ -107,19 +108,17 @@ IsAllSame w replica node table =
     (line : VerdictLine) → Contains (verdicts_of w) line → line.replica ≡ replica → line.table ≡ table
     → (line.verdict ≡ Same) × IsDistinguished w node line
 
--- whether a table of a replica is told as EQUAL
-abbrev pub is_told_equal : WorldView → NodeView → ℕ → Bool
-is_told_equal w node table = rows_equal (table_rows (replayed_of w.source).tables table) (table_rows (replayed_of node).tables table)
+-- the line of a table on a replica that says whether it is equal at the log's end
+pub record HasEqualLine (lines : List EqualLine) (replica table : ℕ) : Type 0 where
+  pub line : EqualLine
+  pub among : Contains lines line
+  pub of_replica : line.replica ≡ replica
+  pub of_table : line.table ≡ table
 
--- a table whose verdicts on a replica are all SAME, by digests that distinguish, is told as EQUAL
-abbrev pub SameIsEqual : WorldView → Type 0
-SameIsEqual w =
-    (replica table : ℕ) (node : NodeView)
-    → 1 ≤ replica
-    → slice_get w.replicas (replica - 1) ≡ Some node
-    → table < length w.source.schemas
-    → IsAllSame w replica node table
-    → is_told_equal w node table ≡ true
+-- where a table's verdicts on a replica are all SAME, by digests that distinguish, its line is EQUAL
+abbrev pub SameIsEqual : WorldView → EqualLine → Type 0
+SameIsEqual w line =
+    (node : NodeView) → slice_get w.replicas (line.replica - 1) ≡ Some node → IsAllSame w line.replica node line.table → line.equal ≡ true
 
 -- what holds of the world at the end of a run
 pub record RunHolds (workload : Workload) (w : WorldView) : Type 0 where
@@ -151,5 +150,6 @@ pub record RunHolds (workload : Workload) (w : WorldView) : Type 0 where
   -- each verdict is about a whole table, and no table of any replica is passed over
   pub whole_tables : AllByRecursion IsOfWholeTable (verdicts_of w)
   pub each_table : (replica table : ℕ) → 1 ≤ replica → replica ≤ length w.replicas → table < length w.source.schemas → HasLine (verdicts_of w) replica table
-  -- and a table that is SAME throughout is EQUAL at the log's end
-  pub same_is_equal : SameIsEqual w
+  -- each table of each replica has its line EQUAL or UNEQUAL at the log's end, and is EQUAL where it is SAME throughout
+  pub each_equal_line : (replica table : ℕ) → 1 ≤ replica → replica ≤ length w.replicas → table < length w.source.schemas → HasEqualLine (equals_of w) replica table
+  pub same_is_equal : AllByRecursion (SameIsEqual w) (equals_of w)
