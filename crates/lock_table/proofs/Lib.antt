@@ -1,0 +1,5 @@
+pub mod GapLemmas
+pub mod HoldLemmas
+pub mod LeastLemmas
+pub mod NextLemmas
+pub mod PlaceLemmas

@@ -1,0 +1,14 @@
+use Rattle.std.proofs.Common.{◌≡◌, ◌≤◌, length, drop}
+use Rattle.std.specs.Prelude.{option_copied}
+use Rattle.lock_table.specs.Locks.{foreign_keys}
+use Rattle.lock_table.specs.Stops.{greatest_key_before}
+use Rattle.lock_table.proofs.foreign_keys.prev_in.Given as goal
+
+abbrev pub invariant-loop-index : goal.invariant-loop-index
+invariant-loop-index l = record {
+  within : l.index ≤ length l.fn.held;
+  greatest : option_copied l.greatest ≡ greatest_key_before l.fn.edge (foreign_keys l.fn.owner.0 l.fn.table (drop l.index l.fn.held));
+}
+
+abbrev pub decreases-loop-index : goal.decreases-loop-index
+decreases-loop-index l = l.index

@@ -1,0 +1,84 @@
+//! Which holdings exclude a want, and the least owner of one.
+ghost use Rattle.std.specs.Prelude.{◌≡◌, Some, option_map};
+ghost use Rattle.lock_table.specs.Locks.{is_same_key, is_exclusive, is_excluded_by, is_foreign, excludes, lesser_owner, excluder};
+
+use crate::wants::{Holding, Owner, Want};
+use row_types::{Key, LockMode};
+
+/// Whether a holding of another owner excludes the want.
+fn excludes(owner: Owner, table: u32, want: &Want, holding: &Holding) -> bool
+    ensures { result ≡ excludes owner.0 table want.now holding.now }
+{
+    is_foreign(owner, table, holding) && is_excluded_by(want, &holding.want)
+}
+
+pub(crate) fn is_foreign(owner: Owner, table: u32, holding: &Holding) -> bool
+    ensures { result ≡ is_foreign owner.0 table holding.now }
+{
+    holding.owner.0 != owner.0 && holding.table == table
+}
+
+fn is_exclusive(mode: LockMode) -> bool
+    ensures { result ≡ is_exclusive mode }
+{
+    match mode {
+        LockMode::Shared => false,
+        LockMode::Exclusive => true,
+    }
+}
+
+pub(crate) fn is_same_key(ours: &Key, theirs: &Key) -> bool
+    ensures { result ≡ is_same_key ours.now theirs.now }
+{
+    ours.compare(theirs).is_eq()
+}
+
+fn is_excluded_by(want: &Want, held: &Want) -> bool
+    ensures { result ≡ is_excluded_by want.now held.now }
+{
+    match want {
+        Want::OnKey { key, mode } => match held {
+            Want::OnKey {
+                key: other,
+                mode: held_mode,
+            } => is_same_key(key, other) && (is_exclusive(*mode) || is_exclusive(*held_mode)),
+            Want::OnGap { .. } | Want::InsertAt { .. } => false,
+        },
+        Want::OnGap { .. } => false,
+        Want::InsertAt { key } => match held {
+            Want::OnKey { key: other, .. } => is_same_key(key, other),
+            Want::OnGap { span } => span.has(key),
+            Want::InsertAt { .. } => false,
+        },
+    }
+}
+
+/// The lesser of an owner and another, if there is one.
+fn lesser(owner: Owner, other: Option<Owner>) -> Owner
+    ensures { lesser_owner owner.0 (option_map (λ by. by.0) other) ≡ Some result.0 }
+{
+    match other {
+        None => owner,
+        Some(by) => { if by.0 < owner.0 { by } else { owner } }
+    }
+}
+
+/// The least owner of the holdings that exclude the want.
+pub(crate) fn least_excluder(
+    held: &[Holding],
+    owner: Owner,
+    table: u32,
+    want: &Want,
+) -> Option<Owner>
+    ensures { option_map (λ by. by.0) result ≡ excluder owner.0 table want.now held.now }
+{
+    let mut rest = held;
+    let mut least = None;
+    while let Some((holding, more)) = rest.split_first() {
+        if excludes(owner, table, want, holding) {
+            least = Some(lesser(holding.owner, least));
+        }
+        rest = more;
+    }
+    least
+}

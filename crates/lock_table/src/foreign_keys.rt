@@ -1,0 +1,137 @@
+//! The keys on which other owners have locks, beside an edge.
+ghost use Rattle.std.specs.Prelude.{◌≡◌, option_copied};
+ghost use Rattle.row_types.specs.Order.{is_past_edge, is_before_edge};
+ghost use Rattle.lock_table.specs.Stops.{lesser_key, greater_key, least_key_past, greatest_key_before};
+ghost use Rattle.lock_table.specs.FoundKeys.{least_with, greatest_with};
+ghost use Rattle.lock_table.specs.Locks.{foreign_keys};
+
+use crate::exclusion::is_foreign;
+use crate::wants::{Holding, Owner, Want};
+use row_types::{Edge, Key};
+
+/// Whether a key is past an edge.
+fn is_past(edge: &Edge, key: &Key) -> bool
+    ensures { result ≡ is_past_edge edge.now key.now }
+{
+    match edge {
+        Edge::Low => true,
+        Edge::Before(ours) => ours.compare(key).is_le(),
+        Edge::After(ours) => ours.compare(key).is_lt(),
+        Edge::High => false,
+    }
+}
+
+/// Whether a key is before an edge.
+fn is_before(edge: &Edge, key: &Key) -> bool
+    ensures { result ≡ is_before_edge edge.now key.now }
+{
+    match edge {
+        Edge::Low => false,
+        Edge::Before(ours) => key.compare(ours).is_lt(),
+        Edge::After(ours) => key.compare(ours).is_le(),
+        Edge::High => true,
+    }
+}
+
+/// The lesser of a key and another, if there is one.
+fn lesser_key<'a>(key: &'a Key, other: Option<&'a Key>) -> &'a Key
+    ensures { result.now ≡ lesser_key key.now (option_copied other.entry) }
+{
+    match other {
+        None => key,
+        Some(other) => {
+            if other.compare(key).is_lt() {
+                other
+            } else {
+                key
+            }
+        }
+    }
+}
+
+/// The greater of a key and another, if there is one.
+fn greater_key<'a>(key: &'a Key, other: Option<&'a Key>) -> &'a Key
+    ensures { result.now ≡ greater_key key.now (option_copied other.entry) }
+{
+    match other {
+        None => key,
+        Some(other) => {
+            if key.compare(other).is_lt() {
+                other
+            } else {
+                key
+            }
+        }
+    }
+}
+
+/// The least of the keys found so far and that of a further want, if this is a lock on a key past the edge.
+fn least_with<'a>(edge: &Edge, want: &'a Want, found: Option<&'a Key>) -> Option<&'a Key>
+    ensures { option_copied result ≡ least_with edge.now want.now (option_copied found.entry) }
+{
+    match want {
+        Want::OnKey { key, .. } => {
+            if is_past(edge, key) {
+                return Some(lesser_key(key, found));
+            }
+            found
+        }
+        Want::OnGap { .. } | Want::InsertAt { .. } => found,
+    }
+}
+
+fn greatest_with<'a>(edge: &Edge, want: &'a Want, found: Option<&'a Key>) -> Option<&'a Key>
+    ensures { option_copied result ≡ greatest_with edge.now want.now (option_copied found.entry) }
+{
+    match want {
+        Want::OnKey { key, .. } => {
+            if is_before(edge, key) {
+                return Some(greater_key(key, found));
+            }
+            found
+        }
+        Want::OnGap { .. } | Want::InsertAt { .. } => found,
+    }
+}
+
+/// The least foreign key past an edge, gone over from the last holding on.
+pub(crate) fn next_in<'a>(
+    held: &'a [Holding],
+    owner: Owner,
+    table: u32,
+    edge: &Edge,
+) -> Option<&'a Key>
+    ensures { option_copied result ≡ least_key_past edge.now (foreign_keys owner.0 table held.now) }
+{
+    let mut index = held.len();
+    let mut least = None;
+    while index > 0 {
+        index -= 1;
+        let holding = &held[index];
+        if is_foreign(owner, table, holding) {
+            least = least_with(edge, &holding.want, least);
+        }
+    }
+    least
+}
+
+/// The greatest foreign key before an edge.
+pub(crate) fn prev_in<'a>(
+    held: &'a [Holding],
+    owner: Owner,
+    table: u32,
+    edge: &Edge,
+) -> Option<&'a Key>
+    ensures { option_copied result ≡ greatest_key_before edge.now (foreign_keys owner.0 table held.now) }
+{
+    let mut index = held.len();
+    let mut greatest = None;
+    while index > 0 {
+        index -= 1;
+        let holding = &held[index];
+        if is_foreign(owner, table, holding) {
+            greatest = greatest_with(edge, &holding.want, greatest);
+        }
+    }
+    greatest
+}
