@@ -1,0 +1,11 @@
+//! The next visit of a statement that goes row by row: which locks it takes and how far it comes, over a
+//! live table and what other owners have locked (MySQL Reference Manual, "Locks Set by Different SQL
+//! Statements in InnoDB").
+#![tactic(auto)]
+
+pub mod plans;
+mod visits;
+mod walk_stops;
+
+pub use plans::Plan;
+pub use visits::next_plan;
