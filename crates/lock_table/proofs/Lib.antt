@@ -3,3 +3,4 @@ pub mod HoldLemmas
 pub mod LeastLemmas
 pub mod NextLemmas
 pub mod PlaceLemmas
+pub mod OtherLemmas

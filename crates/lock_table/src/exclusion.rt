@@ -1,7 +1,8 @@
 //! Which holdings exclude a want, and the least owner of one.
-ghost use Rattle.std.specs.Prelude.{◌≡◌, Some, option_map};
-ghost use Rattle.lock_table.specs.Locks.{is_same_key, is_exclusive, is_excluded_by, is_foreign, excludes, lesser_owner, excluder};
+ghost use Rattle.std.specs.Prelude.{◌≡◌, option_map};
+ghost use Rattle.lock_table.specs.Locks.{is_same_key, is_exclusive, is_excluded_by, is_foreign, excludes, excluder, IsByOwner};
 
+use crate::holdings::others_of;
 use crate::wants::{Holding, Owner, Want};
 use row_types::{Key, LockMode};
 
@@ -53,32 +54,35 @@ fn is_excluded_by(want: &Want, held: &Want) -> bool
     }
 }
 
-/// The lesser of an owner and another, if there is one.
-fn lesser(owner: Owner, other: Option<Owner>) -> Owner
-    ensures { lesser_owner owner.0 (option_map (λ by. by.0) other) ≡ Some result.0 }
+/// The first owner of the holdings, which is the least, whose holding excludes the want.
+#[tactic(auto, using(crate::proofs::OtherLemmas::first_excludes))]
+fn first_excluder(held: &[Holding], owner: Owner, table: u32, want: &Want) -> Option<Owner>
+    requires { IsByOwner held.now }
+    ensures { option_map (λ by. by.0) result ≡ excluder owner.0 table want.now held.now }
 {
-    match other {
-        None => owner,
-        Some(by) => { if by.0 < owner.0 { by } else { owner } }
+    let mut rest = held;
+    while let Some((holding, more)) = rest.split_first() {
+        if excludes(owner, table, want, holding) {
+            return Some(holding.owner);
+        }
+        rest = more;
     }
+    None
 }
 
-/// The least owner of the holdings that exclude the want.
+/// The least owner of the holdings that exclude the want. The owner's own are passed over at once.
 pub(crate) fn least_excluder(
     held: &[Holding],
     owner: Owner,
     table: u32,
     want: &Want,
 ) -> Option<Owner>
+    requires { IsByOwner held.now }
     ensures { option_map (λ by. by.0) result ≡ excluder owner.0 table want.now held.now }
 {
-    let mut rest = held;
-    let mut least = None;
-    while let Some((holding, more)) = rest.split_first() {
-        if excludes(owner, table, want, holding) {
-            least = Some(lesser(holding.owner, least));
-        }
-        rest = more;
+    let (lesser, greater) = others_of(held, owner);
+    match first_excluder(lesser, owner, table, want) {
+        None => first_excluder(greater, owner, table, want),
+        Some(by) => Some(by),
     }
-    least
 }

@@ -2,10 +2,11 @@
 ghost use Rattle.std.specs.Prelude.{◌≡◌, option_copied};
 ghost use Rattle.row_types.specs.Order.{is_past_edge, is_before_edge};
 ghost use Rattle.lock_table.specs.Stops.{lesser_key, greater_key, least_key_past, greatest_key_before};
-ghost use Rattle.lock_table.specs.FoundKeys.{least_with, greatest_with};
-ghost use Rattle.lock_table.specs.Locks.{foreign_keys};
+ghost use Rattle.lock_table.specs.FoundKeys.{least_with, greatest_with, lesser_of, greater_of};
+ghost use Rattle.lock_table.specs.Locks.{foreign_keys, IsByOwner};
 
 use crate::exclusion::is_foreign;
+use crate::holdings::others_of;
 use crate::wants::{Holding, Owner, Want};
 use row_types::{Edge, Key};
 
@@ -94,13 +95,28 @@ fn greatest_with<'a>(edge: &Edge, want: &'a Want, found: Option<&'a Key>) -> Opt
     }
 }
 
-/// The least foreign key past an edge, gone over from the last holding on.
-pub(crate) fn next_in<'a>(
-    held: &'a [Holding],
-    owner: Owner,
-    table: u32,
-    edge: &Edge,
-) -> Option<&'a Key>
+/// The lesser of two keys, where there are two.
+fn lesser_of<'a>(ours: Option<&'a Key>, theirs: Option<&'a Key>) -> Option<&'a Key>
+    ensures { option_copied result ≡ lesser_of (option_copied ours.entry) (option_copied theirs.entry) }
+{
+    match ours {
+        None => theirs,
+        Some(key) => Some(lesser_key(key, theirs)),
+    }
+}
+
+/// The greater of two keys, where there are two.
+fn greater_of<'a>(ours: Option<&'a Key>, theirs: Option<&'a Key>) -> Option<&'a Key>
+    ensures { option_copied result ≡ greater_of (option_copied ours.entry) (option_copied theirs.entry) }
+{
+    match ours {
+        None => theirs,
+        Some(key) => Some(greater_key(key, theirs)),
+    }
+}
+
+/// The least key past an edge on which another owner has a lock, gone over from the last holding on.
+fn next_in<'a>(held: &'a [Holding], owner: Owner, table: u32, edge: &Edge) -> Option<&'a Key>
     ensures { option_copied result ≡ least_key_past edge.now (foreign_keys owner.0 table held.now) }
 {
     let mut index = held.len();
@@ -115,13 +131,8 @@ pub(crate) fn next_in<'a>(
     least
 }
 
-/// The greatest foreign key before an edge.
-pub(crate) fn prev_in<'a>(
-    held: &'a [Holding],
-    owner: Owner,
-    table: u32,
-    edge: &Edge,
-) -> Option<&'a Key>
+/// The greatest key before an edge on which another owner has a lock, gone over likewise.
+fn prev_in<'a>(held: &'a [Holding], owner: Owner, table: u32, edge: &Edge) -> Option<&'a Key>
     ensures { option_copied result ≡ greatest_key_before edge.now (foreign_keys owner.0 table held.now) }
 {
     let mut index = held.len();
@@ -134,4 +145,40 @@ pub(crate) fn prev_in<'a>(
         }
     }
     greatest
+}
+
+/// The least key past an edge on which another owner has a lock. The owner's own are passed over at once.
+#[tactic(auto, using(crate::proofs::OtherLemmas::next_of_others))]
+pub(crate) fn foreign_next<'a>(
+    held: &'a [Holding],
+    owner: Owner,
+    table: u32,
+    edge: &Edge,
+) -> Option<&'a Key>
+    requires { IsByOwner held.now }
+    ensures { option_copied result ≡ least_key_past edge.now (foreign_keys owner.0 table held.now) }
+{
+    let (lesser, greater) = others_of(held, owner);
+    lesser_of(
+        next_in(lesser, owner, table, edge),
+        next_in(greater, owner, table, edge),
+    )
+}
+
+/// The greatest key before an edge on which another owner has a lock.
+#[tactic(auto, using(crate::proofs::OtherLemmas::prev_of_others))]
+pub(crate) fn foreign_prev<'a>(
+    held: &'a [Holding],
+    owner: Owner,
+    table: u32,
+    edge: &Edge,
+) -> Option<&'a Key>
+    requires { IsByOwner held.now }
+    ensures { option_copied result ≡ greatest_key_before edge.now (foreign_keys owner.0 table held.now) }
+{
+    let (lesser, greater) = others_of(held, owner);
+    greater_of(
+        prev_in(lesser, owner, table, edge),
+        prev_in(greater, owner, table, edge),
+    )
 }

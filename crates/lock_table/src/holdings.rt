@@ -1,10 +1,18 @@
-//! Holdings by ascending owner: where an owner's end, a holding more, and those of an owner taken out.
+//! Holdings by ascending owner: the other owners', a holding more, and an owner's taken out.
 ghost use Rattle.std.specs.Prelude.{◌≡◌, ◌≤◌, ◌<◌, ◌+◌, vec_len, vec_capacity};
 ghost use Rattle.std.specs.List.{insert};
 ghost use Rattle.lock_table.specs.Locks.{with_holding, released, IsByOwner, AreLocks, IsLock};
-ghost use Rattle.lock_table.specs.Places.{IsEndOf};
+ghost use Rattle.lock_table.specs.Places.{IsStartOf, IsEndOf, AreOthers};
 
 use crate::wants::{Holding, Owner};
+
+/// The index of the owner's first holding, or of the first of a greater one.
+fn start_of(held: &[Holding], owner: Owner) -> usize
+    requires { IsByOwner held.now }
+    ensures { IsStartOf owner.0 held.now result }
+{
+    held.partition_point(|holding| holding.owner.0 < owner.0)
+}
 
 /// The index of the first holding of a greater owner.
 fn end_of(held: &[Holding], owner: Owner) -> usize
@@ -12,6 +20,17 @@ fn end_of(held: &[Holding], owner: Owner) -> usize
     ensures { IsEndOf owner.0 held.now result }
 {
     held.partition_point(|holding| holding.owner.0 <= owner.0)
+}
+
+/// The holdings of lesser owners, and those of greater ones.
+#[tactic(auto, using(crate::proofs::OtherLemmas::front_by_owner, crate::proofs::OtherLemmas::others_are))]
+pub(crate) fn others_of<'a>(held: &'a [Holding], owner: Owner) -> (&'a [Holding], &'a [Holding])
+    requires { IsByOwner held.now }
+    ensures { AreOthers owner.0 held.now result.0.now result.1.now }
+{
+    let (up_to, greater) = held.split_at(end_of(held, owner));
+    let (lesser, _) = up_to.split_at(start_of(up_to, owner));
+    (lesser, greater)
 }
 
 /// Puts a holding behind its owner's others, where there is reserved capacity for it.

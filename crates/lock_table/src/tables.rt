@@ -3,7 +3,7 @@ ghost use Rattle.lock_table.specs.Stops.{least_key_past, greatest_key_before};
 ghost use Rattle.lock_table.specs.Locks.{excluder, foreign_keys, held_on, released, with_want, with_wants, IsLock};
 
 use crate::exclusion::least_excluder;
-use crate::foreign_keys::{next_in, prev_in};
+use crate::foreign_keys::{foreign_next, foreign_prev};
 use crate::holdings::{put_behind, take_out};
 use crate::strongest::held_in;
 use crate::wants::{Held, Holding, Owner, Want};
@@ -112,14 +112,14 @@ impl LockTable {
     pub fn foreign_next(&self, owner: Owner, table: u32, edge: &Edge) -> Option<&Key>
         ensures { option_copied result ≡ least_key_past edge.now (foreign_keys owner.0 table self.now.held) }
     {
-        next_in(self.held.as_slice(), owner, table, edge)
+        foreign_next(self.held.as_slice(), owner, table, edge)
     }
 
     /// The greatest key before an edge on which another owner has a lock, if there is one.
     pub fn foreign_prev(&self, owner: Owner, table: u32, edge: &Edge) -> Option<&Key>
         ensures { option_copied result ≡ greatest_key_before edge.now (foreign_keys owner.0 table self.now.held) }
     {
-        prev_in(self.held.as_slice(), owner, table, edge)
+        foreign_prev(self.held.as_slice(), owner, table, edge)
     }
 
     /// The strongest lock that an owner has on a key.
