@@ -52,7 +52,7 @@ same_or_apart a b = at (a == b) refl
     at false e = inr (number_apart a b e)
 
 -- another owner's holding on the table is foreign
-foreign_is : (owner other table : ℕ) (want : Want) (holding : Holding) → other ≢ owner → IsHolding other table want holding → is_foreign owner table holding ≡ true
+pub foreign_is : (owner other table : ℕ) (want : Want) (holding : Holding) → other ≢ owner → IsHolding other table want holding → is_foreign owner table holding ≡ true
 foreign_is owner other table want holding apart is =
     (λ i. not (other_number holding.owner.0 owner (λ e. apart (sym is.0 ∙ e)) i) && is_number holding.table table is.1 i)
 
@@ -155,7 +155,7 @@ by_here owner table key holding held (OnKey other mode) is apart on more (inr th
 by_here owner table key holding held (OnGap span) is apart on more there = by_deeper owner table key holding held (more there)
 by_here owner table key holding held (InsertAt other) is apart on more there = by_deeper owner table key holding held (more there)
 
-both_of : (p q : Bool) → not p && q ≡ true → (p ≡ false) × (q ≡ true)
+pub both_of : (p q : Bool) → not p && q ≡ true → (p ≡ false) × (q ≡ true)
 both_of true q e = cc
 both_of false true e = (refl, refl)
 both_of false false e = cc

@@ -1,5 +1,5 @@
 -- Who holds what, and what excludes a further want.
-use Rattle.std.specs.Prelude.{ℕ, ◌≡◌, ◌≤◌, ◌⊎◌, ◌&&◌, ◌||◌, ◌==◌, nat_le, not, min, Bool, true, false, cond, List, [], ◌∷◌, Option, None, Some, filter}
+use Rattle.std.specs.Prelude.{ℕ, ◌≡◌, ◌≢◌, ◌≤◌, ◌⊎◌, ◌&&◌, ◌||◌, ◌==◌, nat_le, not, min, Bool, true, false, cond, List, [], ◌∷◌, Option, None, Some, filter}
 use Rattle.std.specs.List.{AllByRecursion}
 use Rattle.std.specs.Ordering.{is_eq}
 use Rattle.row_types.specs.declared.values.Value.{Value}
@@ -142,3 +142,8 @@ IsUpToEach owner = AllByRecursion (λ (holding : Holding). owner ≤ holding.own
 abbrev pub IsByOwner : List Holding → Type 0
 IsByOwner [] = Unit {0}
 IsByOwner (holding ∷ held) = IsUpToEach holding.owner.0 held × IsByOwner held
+
+-- nothing that an owner holds excludes what another holds
+abbrev pub AreCompatible : List Holding → Type 0
+AreCompatible held =
+    (a b table : ℕ) (ours theirs : Want) → a ≢ b → Holds a table ours held → Holds b table theirs held → is_excluded_by ours theirs ≡ false

@@ -1,11 +1,14 @@
 ghost use Rattle.std.specs.Prelude.{◌≡◌, ◌↔◌, IsTrue, IfOk};
 
-use row_types::{Key, LockMode, Plain, R, Span};
+use row_types::{Items, Key, LockMode, Plain, R, Span};
 use std::alloc::Global;
 
 /// Who holds locks: the number of a session, an applier or a tool.
 #[derive(Clone, Copy, Debug, PartialEq, Eq)]
 pub struct Owner(pub u32);
+
+/// Owners, as they wait for one another.
+pub type Owners = Items<Owner>;
 
 /// What a statement wants: a record lock, a gap lock, or to put a row in at a key.
 /// Source: MySQL Reference Manual, "InnoDB Locking".
