@@ -1,0 +1,12 @@
+pub mod ChangeLemmas
+pub mod TableLemmas
+pub mod PlanIsLemmas
+pub mod RoomLemmas
+pub mod VisitedLemmas
+pub mod NoteLemmas
+pub mod SettleLemmas
+pub mod StartLemmas
+pub mod RemoveLemmas
+pub mod ViewLemmas
+pub mod FreshLemmas
+pub mod RollbackLemmas

@@ -1,0 +1,9 @@
+pub mod Written
+pub mod NotesView
+pub mod NotesParts
+pub mod Kept
+pub mod Answers
+pub mod Dues
+pub mod Undone
+pub mod Fresh
+pub mod NodeParts

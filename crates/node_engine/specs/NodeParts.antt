@@ -1,0 +1,10 @@
+-- A node is seen as its parts are, and keeps what they do.
+use Rattle.node_model.specs.Node.{NodeView}
+use Rattle.node_engine.specs.declared.nodes.Node.TheInside.{Inside}
+use Rattle.node_engine.specs.Kept.{node_view, PartsKept}
+
+abbrev pub view_of : Inside → NodeView
+view_of node = node_view node.parts
+
+pub record NodeKept (node : Inside) : Type 0 where
+  pub parts : PartsKept node.parts

@@ -1,0 +1,116 @@
+ghost use Rattle.std.specs.Prelude.{◌≡◌, None, Some, IsSome, is_some, option_copied, IfOk, OnOk, OnErr};
+ghost use Rattle.node_model.specs.Txns.{txn_of, with_current};
+ghost use Rattle.node_model.specs.Node.{NodeView, begun, ended};
+ghost use Rattle.node_model.specs.Calls.{after_call, fresh_node, Visit as VisitCall, Start as StartCall};
+ghost use Rattle.std.specs.List.{AllByRecursion};
+ghost use Rattle.row_types.specs.Fit.{IsSchema, AreTables};
+ghost use Rattle.node_engine.specs.Answers.{IsUnderWay, IsIdle, IsLiveTable, walk_of, visit_answer};
+ghost use Rattle.ptc_statement.specs.Fits.{FitsSchemas};
+
+use crate::makes::fresh_parts;
+use crate::parts::Parts;
+use crate::rollbacks::rollback_parts;
+use crate::starts::{begin_parts, start_parts};
+use crate::views::{is_under_way, live_in};
+use crate::visits::{Visit, visit_parts};
+use lock_table::Owner;
+use node_model::Part;
+use ordered_table::Table;
+use ptc_statement::Statement;
+use row_types::{R, Schemas, Tables};
+use std::alloc::Global;
+use std::marker::Model;
+
+/// A node: its tables as they are now, its open transactions with what they hold, and its history.
+#[derive(Drop)]
+pub struct Node {
+    parts: Parts,
+}
+
+impl Model for Node {
+    ghost use Rattle.node_model.specs.Node.{NodeView};
+    ghost use Rattle.node_engine.specs.NodeParts.{view_of, NodeKept};
+    ghost use Rattle.std.specs.Coded.{codes};
+    ghost use Rattle.ptc_statement.specs.contracts.expressions.Expr as expr;
+    ghost use Rattle.ptc_statement.specs.contracts.conditions.Cond as condition;
+
+    ghost Value = { NodeView };
+
+    ghost coded = { Prim.hlevel (codes, expr.the_row.coded, condition.the_row.coded) };
+
+    ghost view = { view_of };
+
+    ghost invariant = { NodeKept };
+}
+
+impl Node {
+    /// A node without a history and without transactions.
+    pub fn new(alloc: Global, schemas: Schemas, start: Tables) -> R<Node>
+        requires schemas { AllByRecursion IsSchema schemas.tables }
+        requires start { AreTables schemas.tables start }
+        ensures { IfOk result (λ node. node ≡ fresh_node schemas.tables start) }
+    {
+        let parts = fresh_parts(alloc, schemas, start)?;
+        Ok(Node { parts })
+    }
+
+    /// Whether an owner has a transaction.
+    pub fn is_begun(&self, owner: Owner) -> bool
+        ensures { result ≡ is_some (txn_of owner.0 self.now.txns) }
+    {
+        self.parts.txns.get(owner).is_some()
+    }
+
+    /// Whether an owner has a statement in progress.
+    pub fn is_under_way(&self, owner: Owner) -> bool
+        ensures { result ≡ is_some (walk_of owner.0 self.now.txns) }
+    {
+        is_under_way(&self.parts, owner)
+    }
+
+    /// The live table of this number: its row at each key is the live row.
+    pub fn live(&self, number: u32) -> Option<&Table>
+        ensures { IsLiveTable self.now number (option_copied result) }
+    {
+        live_in(&self.parts, number)
+    }
+
+    /// Begins a transaction of an owner that has none; want of memory changes nothing.
+    pub fn begin(&mut self, alloc: Global, owner: Owner, part: Part) -> R<()>
+        requires { txn_of owner.0 self.old.txns ≡ None }
+        ensures ok { OnOk result (self.new ≡ begun owner part self.old) }
+        ensures err { OnErr result (self.new ≡ self.old) }
+    {
+        begin_parts(alloc, owner, part, &mut self.parts)?;
+        Ok(())
+    }
+
+    /// Starts a statement in a transaction that has none in progress; want of memory changes nothing.
+    pub fn start(&mut self, alloc: Global, owner: Owner, statement: Statement) -> R<()>
+        requires idle { IsIdle owner.0 self.old }
+        requires fits { FitsSchemas self.old.schemas statement }
+        ensures ok { OnOk result (self.new ≡ after_call (StartCall owner statement) self.old) }
+        ensures err { OnErr result (self.new ≡ self.old) }
+    {
+        start_parts(alloc, owner, statement, &mut self.parts)?;
+        Ok(())
+    }
+
+    /// An owner's transaction, what it changed and what it holds are gone. It takes no memory.
+    pub fn rollback(&mut self, owner: Owner)
+        ensures { self.new ≡ ended owner.0 self.old }
+    {
+        rollback_parts(owner, &mut self.parts);
+    }
+
+    /// The next visit of an owner's statement in progress; want of memory changes nothing.
+    pub fn visit(&mut self, alloc: Global, owner: Owner) -> R<Visit>
+        requires { IsUnderWay owner.0 self.old }
+        ensures answer { IfOk result (λ answer. answer ≡ visit_answer owner.0 self.old) }
+        ensures ok { OnOk result (self.new ≡ after_call (VisitCall owner) self.old) }
+        ensures err { OnErr result (self.new ≡ self.old) }
+    {
+        let answer = visit_parts(alloc, owner, &mut self.parts)?;
+        Ok(answer)
+    }
+}
