@@ -10,3 +10,4 @@ pub mod RemoveLemmas
 pub mod ViewLemmas
 pub mod FreshLemmas
 pub mod RollbackLemmas
+pub mod CommittedLemmas

@@ -27,6 +27,7 @@ use Rattle.node_model.specs.Txns.{txn_of}
 use Rattle.node_model.proofs.TxnLemmas.{txn_owner}
 use Rattle.node_model.proofs.StopLemmas.{in_front, in_back, in_either, filtered_is, live_is_stop}
 use Rattle.node_model.proofs.SameStops.{same_visit, SameKeys}
+use Rattle.node_model.specs.Waits.{wait_in, wait_of, next_wait}
 use Rattle.txn_walk.specs.StopsAt.{stops_at, is_live_in, plan_at}
 use Rattle.node_engine.specs.declared.notes.Change.{Change}
 use Rattle.node_engine.specs.declared.parts.Parts.{Parts}
@@ -120,3 +121,18 @@ due_is parts owner txn walk slice number plan by refused duplicate change kept f
       duplicate = dup ∙ (λ i. duplicate_key ((ref ∙ ap (is_duplicate txn.part walk.statement) p) i) (p i).on_key);
       change = ch ∙ (λ i. change_in walk (p i).on_key parts.schemas.tables (same i)) ∙ change_is parts walk (plan_of (node_view parts) txn walk).on_key kept;
     }
+
+-- whom a statement in progress waits for
+pub wait_is : (parts : Parts) (owner : Owner) (txn : Txn) (walk : Walk) (by : Option ℕ) → PartsKept parts → txn_of owner.0 parts.txns ≡ Some txn → txn.current ≡ Some walk
+    → by ≡ plan_excluder owner (table_of walk.statement) (plan_in owner.0 walk parts.schemas.tables parts.tables.items parts.locks.held) parts.locks.held → by ≡ next_wait (node_view parts) owner.0
+wait_is parts owner txn walk by kept found current is =
+    let own = owner_is owner txn parts.txns found in
+    is
+    ∙ (λ i. plan_excluder (own i) (table_of walk.statement) (((λ j. plan_in (own j).0 walk parts.schemas.tables parts.tables.items parts.locks.held) ∙ plan_is parts txn walk kept) i) parts.locks.held)
+    ∙ sym (ap (λ (o : Option Txn). wait_of (node_view parts) o) found ∙ ap (λ (o : Option Walk). wait_in (node_view parts) txn o) current)
+
+pub waits_none : (parts : Parts) (owner : ℕ) → txn_of owner parts.txns ≡ None → next_wait (node_view parts) owner ≡ None
+waits_none parts owner none = ap (λ (o : Option Txn). wait_of (node_view parts) o) none
+
+pub waits_idle : (parts : Parts) (owner : ℕ) (txn : Txn) → txn_of owner parts.txns ≡ Some txn → txn.current ≡ None → next_wait (node_view parts) owner ≡ None
+waits_idle parts owner txn found idle = ap (λ (o : Option Txn). wait_of (node_view parts) o) found ∙ ap (λ (o : Option Walk). wait_in (node_view parts) txn o) idle

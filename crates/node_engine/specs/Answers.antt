@@ -1,5 +1,5 @@
 -- What a visit does and answers.
-use Rattle.std.specs.Prelude.{ℕ, ◌≡◌, Bool, true, false, cond, List, Option, None, Some, option_map, option_and_then}
+use Rattle.std.specs.Prelude.{ℕ, ◌≡◌, ◌+◌, length, Bool, true, false, cond, List, Option, None, Some, option_map, option_and_then}
 use Rattle.std.specs.List.{slice_get}
 use Rattle.row_types.specs.declared.values.Value.{Value}
 use Rattle.row_types.specs.declared.table_schema.Schema.{Schema}
@@ -9,10 +9,11 @@ use Rattle.row_types.specs.KeyRows.{row_at}
 use Rattle.ordered_table.specs.TableView.{TableView}
 use Rattle.ptc_statement.specs.Effect.{table_of, effect}
 use Rattle.txn_walk.specs.declared.plans.Plan.{Plan}
+use Rattle.statement_log.specs.declared.origins.Origin.{Origin}
 use Rattle.node_model.specs.declared.txns.Walk.{Walk}
 use Rattle.node_model.specs.declared.txns.Txn.{Txn}
 use Rattle.node_model.specs.Txns.{txn_of}
-use Rattle.node_model.specs.Node.{NodeView, live_row, plan_of, plan_excluder, is_duplicate}
+use Rattle.node_model.specs.Node.{NodeView, live_row, plan_of, plan_excluder, is_duplicate, is_written, logged}
 use Rattle.node_engine.specs.declared.notes.Change.{Change}
 use Rattle.node_engine.specs.declared.visits.Visit.{Visit}
 use Rattle.node_engine.specs.declared.visits.Visit.TheVariants.{Stepped, Done, Duplicate, Waits}
@@ -76,3 +77,11 @@ change_under node walk (Some (key, Exclusive)) = change_at node walk key (slice_
 abbrev pub IsLiveTable : NodeView → ℕ → Option TableView → Type 0
 IsLiveTable node number None = slice_get node.schemas number ≡ None
 IsLiveTable node number (Some table) = (key : List Value) → row_at table.key_len key table.rows ≡ live_row node number key
+
+-- the position of the entry that a commit writes, if it writes one
+abbrev pub answer_written : Origin → Option Txn → NodeView → Option ℕ
+answer_written origin None node = None
+answer_written origin (Some txn) node = cond (is_written origin (logged txn.done)) (Some (length node.history + 1)) None
+
+abbrev pub commit_answer : ℕ → Origin → NodeView → Option ℕ
+commit_answer owner origin node = answer_written origin (txn_of owner node.txns) node

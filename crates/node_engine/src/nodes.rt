@@ -1,23 +1,28 @@
-ghost use Rattle.std.specs.Prelude.{◌≡◌, None, Some, IsSome, is_some, option_copied, IfOk, OnOk, OnErr};
-ghost use Rattle.node_model.specs.Txns.{txn_of, with_current};
+ghost use Rattle.std.specs.Prelude.{◌≡◌, None, Some, IsSome, is_some, option_copied, option_map, IfOk, OnOk, OnErr};
+ghost use Rattle.history.specs.Replay.{fold, applied_of};
+ghost use Rattle.node_model.specs.Waits.{next_wait};
+ghost use Rattle.node_model.specs.Txns.{txn_of, done_of, with_current};
 ghost use Rattle.node_model.specs.Node.{NodeView, begun, ended};
-ghost use Rattle.node_model.specs.Calls.{after_call, fresh_node, Visit as VisitCall, Start as StartCall};
+ghost use Rattle.node_model.specs.Calls.{after_call, fresh_node, Visit as VisitCall, Start as StartCall, Commit as CommitCall};
 ghost use Rattle.std.specs.List.{AllByRecursion};
 ghost use Rattle.row_types.specs.Fit.{IsSchema, AreTables};
-ghost use Rattle.node_engine.specs.Answers.{IsUnderWay, IsIdle, IsLiveTable, walk_of, visit_answer};
-ghost use Rattle.ptc_statement.specs.Fits.{FitsSchemas};
+ghost use Rattle.node_engine.specs.Answers.{IsUnderWay, IsIdle, IsLiveTable, walk_of, visit_answer, commit_answer};
+ghost use Rattle.ptc_statement.specs.Fits.{FitsSchemas, IsClients};
 
+use crate::commits::commit_parts;
 use crate::makes::fresh_parts;
 use crate::parts::Parts;
 use crate::rollbacks::rollback_parts;
 use crate::starts::{begin_parts, start_parts};
 use crate::views::{is_under_way, live_in};
-use crate::visits::{Visit, visit_parts};
+use crate::visits::{Visit, visit_parts, waits_in};
+use checksum_table::Checks;
 use lock_table::Owner;
 use node_model::Part;
 use ordered_table::Table;
 use ptc_statement::Statement;
 use row_types::{R, Schemas, Tables};
+use statement_log::{Log, Origin};
 use std::alloc::Global;
 use std::marker::Model;
 
@@ -68,6 +73,42 @@ impl Node {
         is_under_way(&self.parts, owner)
     }
 
+    pub fn schemas(&self) -> &Schemas
+        ensures { result.now.tables ≡ self.now.schemas }
+    {
+        &self.parts.schemas
+    }
+
+    /// The entries that were committed, in order.
+    pub fn history(&self) -> &Log
+        ensures { result.now.entries ≡ self.now.history }
+    {
+        &self.parts.history
+    }
+
+    /// The check rows: those of the history's replay.
+    pub fn checks(&self) -> &Checks
+        ensures { result.now ≡ (fold self.now.schemas self.now.start self.now.history).checks }
+    {
+        &self.parts.checks
+    }
+
+    /// The last entry of the source's log that the history applied, 0 where it applied none.
+    pub fn applied(&self) -> u64
+        ensures { result ≡ applied_of self.now.history }
+    {
+        self.parts.applied
+    }
+
+    /// Whom an owner's statement in progress would have to wait for now, if it has one and there is such
+    /// an owner.
+    pub fn waits_for(&self, alloc: Global, owner: Owner) -> R<Option<Owner>>
+        ensures { IfOk result (λ by. option_map (λ other. other.0) by ≡ next_wait self.now owner.0) }
+    {
+        let by = waits_in(alloc, owner, &self.parts)?;
+        Ok(by)
+    }
+
     /// The live table of this number: its row at each key is the live row.
     pub fn live(&self, number: u32) -> Option<&Table>
         ensures { IsLiveTable self.now number (option_copied result) }
@@ -94,6 +135,20 @@ impl Node {
     {
         start_parts(alloc, owner, statement, &mut self.parts)?;
         Ok(())
+    }
+
+    /// The logged statements of an owner's transaction become an entry of the history, all at once, and the
+    /// transaction and all that it holds are gone. It answers the entry's position; none is written where
+    /// no statement is logged and the origin is a session. Want of memory changes nothing.
+    pub fn commit(&mut self, alloc: Global, owner: Owner, origin: Origin) -> R<Option<u64>>
+        requires idle { IsIdle owner.0 self.old }
+        requires clients { AllByRecursion IsClients (done_of (txn_of owner.0 self.old.txns)) }
+        ensures answer { IfOk result (λ position. position ≡ commit_answer owner.0 origin self.old) }
+        ensures ok { OnOk result (self.new ≡ after_call (CommitCall owner origin) self.old) }
+        ensures err { OnErr result (self.new ≡ self.old) }
+    {
+        let position = commit_parts(alloc, owner, origin, &mut self.parts)?;
+        Ok(position)
     }
 
     /// An owner's transaction, what it changed and what it holds are gone. It takes no memory.

@@ -2,6 +2,7 @@ ghost use Rattle.std.specs.List.{remove, slice_get};
 ghost use Rattle.std.specs.Prelude.{◌≡◌, ◌≤◌, ◌<◌, ◌+◌, ◌^◌, [], ◌∷◌, ◌++◌, None, Some, option_map, take, length, vec_len, vec_capacity, IfSome, OnOk, OnErr};
 ghost use Rattle.row_types.specs.KeyRows.{HasKey, row_at};
 ghost use Rattle.node_engine.specs.Written.{written};
+ghost use Rattle.node_engine.specs.NotesView.{forgotten};
 
 use lock_table::Owner;
 use ordered_table::Table;
@@ -79,6 +80,13 @@ impl Notes {
         self.notes.remove(index)
     }
 
+    /// The notes of an owner go.
+    pub fn forget(&mut self, owner: Owner)
+        ensures { self.new.notes ≡ forgotten owner.0 self.old.notes }
+    {
+        take_out(&mut self.notes, owner);
+    }
+
     /// Makes room for a further note; a refusal changes nothing.
     pub fn reserve(&mut self) -> R<()>
         ensures ok { OnOk result (1 ≤ self.new.spare) }
@@ -112,6 +120,14 @@ fn put_last(notes: &mut Vec<Note>, note: Note)
         Ok(()) => {}
         Err(_) => unreachable!(),
     }
+}
+
+fn take_out(notes: &mut Vec<Note>, owner: Owner)
+    ensures items { notes.new.items ≡ forgotten owner.0 notes.old.items }
+    ensures len { vec_len notes.new ≤ vec_len notes.old }
+    ensures capacity { vec_capacity notes.old ≤ vec_capacity notes.new }
+{
+    notes.retain(|note| note.owner.0 != owner.0);
 }
 
 /// Puts a row at a key or takes the one there away, without memory, and hands back what was there.

@@ -1,6 +1,8 @@
 ghost use Rattle.std.specs.Prelude.{◌≡◌, ◌≤◌, ◌+◌, None, Some, option_map, length, IfSome, IfOk, OnOk, OnErr, take};
 ghost use Rattle.lock_table.specs.Locks.{excluder, with_wants, IsLock};
 ghost use Rattle.node_model.specs.Node.{plan_excluder, is_duplicate, is_insert, is_client, asked, empty_plan, with_gap, with_lock, taken};
+ghost use Rattle.ptc_statement.specs.Effect.{table_of};
+ghost use Rattle.node_model.specs.Waits.{next_wait};
 ghost use Rattle.node_model.specs.Calls.{after_call, Visit as VisitCall};
 ghost use Rattle.node_engine.specs.Kept.{node_view, PartsKept};
 ghost use Rattle.node_engine.specs.Answers.{IsUnderWay, visit_answer, duplicate_key, answer_of};
@@ -58,6 +60,33 @@ pub fn visit_parts(alloc: Global, owner: Owner, parts: &mut Parts) -> R<Visit>
     }
     make_room(parts, &due.change)?;
     settle(parts, owner, due)
+}
+
+/// Whom an owner's statement in progress waits for, if it has one.
+pub fn waits_in(alloc: Global, owner: Owner, parts: &Parts) -> R<Option<Owner>>
+    requires { PartsKept parts.now }
+    ensures { IfOk result (λ by. option_map (λ other. other.0) by ≡ next_wait (node_view parts.now) owner.0) }
+{
+    match parts.txns.get(owner) {
+        None => Ok(None),
+        Some(txn) => match &txn.current {
+            None => Ok(None),
+            Some(walk) => {
+                let by = wait_of(alloc, owner, walk, parts)?;
+                Ok(by)
+            }
+        },
+    }
+}
+
+fn wait_of(alloc: Global, owner: Owner, walk: &Walk, parts: &Parts) -> R<Option<Owner>>
+    ensures { IfOk result (λ by. option_map (λ other. other.0) by ≡ plan_excluder owner (table_of walk.now.statement) (plan_in owner.0 walk.now parts.now.schemas.tables parts.now.tables.items parts.now.locks.held) parts.now.locks.held) }
+{
+    let number = walk.statement.table();
+    let tables = parts.tables.as_slice();
+    let plan = plan_now(alloc, owner, walk, &parts.schemas, tables, &parts.locks)?;
+    let by = excluder_now(alloc, owner, number, &plan, &parts.locks)?;
+    Ok(by)
 }
 
 /// What is due of an owner's statement in progress.

@@ -3,10 +3,11 @@ use Rattle.std.proofs.Common.{◌≡◌, ◌≢◌, ℕ, List, [], ◌∷◌, �
 use Rattle.std.specs.Prelude.{is_some, slice_index_or, slice_set}
 use Rattle.std.proofs.lemmas.List.{set-get_or}
 use Rattle.row_types.specs.declared.edges.Edge.{Edge}
+use Rattle.ptc_statement.specs.declared.statements.Statement.{Statement}
 use Rattle.node_model.specs.declared.txns.Walk.{Walk}
 use Rattle.lock_table.proofs.HoldLemmas.{is_number, number_is, other_number, number_apart}
 use Rattle.node_model.specs.declared.txns.Txn.{Txn}
-use Rattle.node_model.specs.Txns.{txn_of, with_txn, without_txn, place_in, with_current, stepped, stepped_if, with_step}
+use Rattle.node_model.specs.Txns.{txn_of, with_txn, without_txn, done_of, place_in, with_current, stepped, stepped_if, with_step}
 
 pub txn_same : (txn : Txn) (txns : List Txn) → txn_of txn.owner.0 (with_txn txn txns) ≡ Some txn
 txn_same txn [] = ap (λ (b : Bool). cond b (Some txn) None) (is_number txn.owner.0 txn.owner.0 refl)
@@ -152,3 +153,35 @@ step_for owner items view slice place txn new refused ends after seen same is th
     let t : IsThere owner items = subst (IsThere owner) (sym seen) there in
     let a : txn ≡ slice_index_or items (place_in owner items) txn = at ∙ ap (λ (n : ℕ). slice_index_or items n txn) p in
     (λ i. slice_set items (p i) (changed i)) ∙ stepped_is owner items txn refused ends after t a ∙ ap (λ (v : List Txn). with_step refused ends after (txn_of owner v) v) seen
+
+without_with : (owner : ℕ) (new : Txn) (txns : List Txn) → new.owner.0 ≡ owner → without_txn owner (with_txn new txns) ≡ without_txn owner txns
+without_with owner new [] own = ap (λ (b : Bool). cond (not b) (new ∷ []) []) (is_number new.owner.0 owner own)
+without_with owner new (other ∷ others) own = at (other.owner.0 == new.owner.0) refl (without_with owner new others own)
+  where
+    at : (b : Bool) → (other.owner.0 == new.owner.0) ≡ b → without_txn owner (with_txn new others) ≡ without_txn owner others
+        → without_txn owner (cond b (new ∷ others) (other ∷ with_txn new others)) ≡ without_txn owner (other ∷ others)
+    at true e more =
+        ap (λ (b : Bool). cond (not b) (new ∷ without_txn owner others) (without_txn owner others)) (is_number new.owner.0 owner own)
+        ∙ sym (ap (λ (b : Bool). cond (not b) (other ∷ without_txn owner others) (without_txn owner others)) (is_number other.owner.0 owner (number_is other.owner.0 new.owner.0 e ∙ own)))
+    at false e more = ap (λ (ts : List Txn). cond (not (other.owner.0 == owner)) (other ∷ ts) ts) more
+
+pub done_for : (owner : ℕ) (items view slice : List Txn) (place : ℕ) (txn : Txn) (done : List Statement) → items ≡ view → slice ≡ items → place ≡ place_in owner slice → IsThere owner view
+    → txn ≡ slice_index_or items place txn → done ≡ txn.done → done ≡ done_of (txn_of owner view)
+done_for owner items view slice place txn done seen same is there at those =
+    let p = place_of owner items slice place same is in
+    let t : IsThere owner items = subst (IsThere owner) (sym seen) there in
+    let a : txn ≡ slice_index_or items (place_in owner items) txn = at ∙ ap (λ (n : ℕ). slice_index_or items n txn) p in
+    those ∙ ap (λ (u : Txn). u.done) a ∙ sym (ap done_of (place_found owner items txn t)) ∙ ap (λ (v : List Txn). done_of (txn_of owner v)) seen
+
+pub close_for : (owner : ℕ) (items view slice : List Txn) (place : ℕ) (txn new : Txn) (after : List Txn) → items ≡ view → slice ≡ items → place ≡ place_in owner slice → IsThere owner view
+    → txn ≡ slice_index_or items place txn → new ≡ record txn { done = [] } → after ≡ without_txn owner (slice_set items place new) → after ≡ without_txn owner view
+close_for owner items view slice place txn new after seen same is there at changed left =
+    let p = place_of owner items slice place same is in
+    let t : IsThere owner items = subst (IsThere owner) (sym seen) there in
+    let a : txn ≡ slice_index_or items (place_in owner items) txn = at ∙ ap (λ (n : ℕ). slice_index_or items n txn) p in
+    let found : txn_of owner items ≡ Some txn = place_found owner items txn t ∙ ap (λ (u : Txn). Some u) (sym a) in
+    let own : txn.owner.0 ≡ owner = txn_owner owner txn items found in
+    left
+    ∙ ap (without_txn owner) ((λ i. slice_set items (p i) (changed i)) ∙ place_set owner items (record txn { done = [] }) own t)
+    ∙ without_with owner (record txn { done = [] }) items own
+    ∙ ap (without_txn owner) seen

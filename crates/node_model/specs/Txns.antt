@@ -1,6 +1,7 @@
 -- The open transactions of a node, one for each owner.
 use Rattle.std.specs.Prelude.{ℕ, zero, suc, ◌==◌, ◌++◌, Bool, not, filter, cond, List, [], ◌∷◌, Option, None, Some}
 use Rattle.row_types.specs.declared.edges.Edge.{Edge}
+use Rattle.ptc_statement.specs.declared.statements.Statement.{Statement}
 use Rattle.node_model.specs.declared.txns.Walk.{Walk}
 use Rattle.node_model.specs.declared.txns.Txn.{Txn}
 
@@ -16,6 +17,11 @@ with_txn txn (other ∷ others) = cond (other.owner.0 == txn.owner.0) (txn ∷ o
 
 abbrev pub without_txn : ℕ → List Txn → List Txn
 without_txn owner txns = filter (λ (txn : Txn). not (txn.owner.0 == owner)) txns
+
+-- the statements that are done in a transaction
+abbrev pub done_of : Option Txn → List Statement
+done_of None = []
+done_of (Some txn) = txn.done
 
 -- the number of an owner's transaction in the list, or how many there are
 abbrev pub place_in : ℕ → List Txn → ℕ

@@ -1,7 +1,7 @@
 ghost use Rattle.std.specs.Prelude.{◌≡◌, [], ◌∷◌, None, Some, IsSome, true, false, option_copied, OnOk, OnErr};
 ghost use Rattle.row_types.specs.declared.edges.Edge.TheVariants.{Low};
 ghost use Rattle.std.specs.Prelude.{◌++◌, ◌<◌, vec_len, vec_capacity};
-ghost use Rattle.node_model.specs.Txns.{txn_of, with_txn, without_txn, place_in, with_current, stepped_if, with_step};
+ghost use Rattle.node_model.specs.Txns.{txn_of, with_txn, without_txn, done_of, place_in, with_current, stepped_if, with_step};
 
 use crate::parts::Part;
 use lock_table::Owner;
@@ -9,6 +9,7 @@ use ptc_statement::{Statement, Statements};
 use row_types::{Edge, R};
 use std::alloc::Global;
 use std::marker::Model;
+use std::mem;
 
 /// A statement in progress, and the edge up to which it is done.
 #[derive(Debug, Drop)]
@@ -93,11 +94,23 @@ impl Txns {
         step_one(&mut self.items[place], refused, ends, after)
     }
 
+    /// An owner's transaction goes, and its statements that are done are handed on, without memory.
+    pub fn close(&mut self, alloc: Global, owner: Owner) -> Statements
+        requires { IsSome (txn_of owner.0 self.old) }
+        ensures done { result ≡ done_of (txn_of owner.0 self.old) }
+        ensures left { self.new ≡ without_txn owner.0 self.old }
+    {
+        let place = place_in(self.items.as_slice(), owner);
+        let done = take_done(alloc, &mut self.items[place]);
+        take_out(&mut self.items, owner);
+        done
+    }
+
     /// An owner's transaction goes, if there is one.
     pub fn end(&mut self, owner: Owner)
         ensures { self.new ≡ without_txn owner.0 self.old }
     {
-        self.items.retain(|txn| txn.owner.0 != owner.0);
+        take_out(&mut self.items, owner);
     }
 }
 
@@ -124,6 +137,19 @@ fn place_in(txns: &[Txn], owner: Owner) -> usize
         }
     }
     txns.len()
+}
+
+fn take_out(txns: &mut Vec<Txn>, owner: Owner)
+    ensures { txns.new.items ≡ without_txn owner.0 txns.old.items }
+{
+    txns.retain(|txn| txn.owner.0 != owner.0);
+}
+
+fn take_done(alloc: Global, txn: &mut Txn) -> Statements
+    ensures done { result ≡ txn.old.done }
+    ensures left { txn.new ≡ record txn.old { done = [] } }
+{
+    mem::replace(&mut txn.done, Statements::new(alloc))
 }
 
 fn set_current(txn: &mut Txn, walk: Walk)
