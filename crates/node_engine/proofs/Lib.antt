@@ -11,3 +11,4 @@ pub mod ViewLemmas
 pub mod FreshLemmas
 pub mod RollbackLemmas
 pub mod CommittedLemmas
+pub mod PublishedLemmas

@@ -89,7 +89,7 @@ fn write_entry(history: &mut Log, origin: Origin, statements: Statements) -> Opt
 }
 
 /// Puts an entry at the end of a log that has room for it, and answers its position.
-fn append_reserved(history: &mut Log, entry: Entry) -> u64
+pub fn append_reserved(history: &mut Log, entry: Entry) -> u64
     requires { 1 ≤ history.old.spare }
     ensures entries { history.new.entries ≡ history.old.entries ++ entry ∷ [] }
     ensures position { result ≡ length history.old.entries + 1 }

@@ -1,9 +1,11 @@
-ghost use Rattle.std.specs.Prelude.{◌≡◌, None, Some, IsSome, is_some, option_copied, option_map, IfOk, OnOk, OnErr};
+ghost use Rattle.std.specs.Prelude.{◌≡◌, ◌↔◌, None, Some, IsSome, is_some, option_copied, option_map, length, IfOk, IfErr, OnOk, OnErr};
+ghost use Rattle.checksum_table.specs.Checks.{check_at};
+ghost use Rattle.node_engine.specs.declared.publishing.MasterFault.TheVariants.{NoCheck};
 ghost use Rattle.history.specs.Replay.{fold, applied_of};
 ghost use Rattle.node_model.specs.Waits.{next_wait};
 ghost use Rattle.node_model.specs.Txns.{txn_of, done_of, with_current};
 ghost use Rattle.node_model.specs.Node.{NodeView, begun, ended};
-ghost use Rattle.node_model.specs.Calls.{after_call, fresh_node, Visit as VisitCall, Start as StartCall, Commit as CommitCall};
+ghost use Rattle.node_model.specs.Calls.{after_call, fresh_node, Visit as VisitCall, Start as StartCall, Commit as CommitCall, Publish as PublishCall};
 ghost use Rattle.std.specs.List.{AllByRecursion};
 ghost use Rattle.row_types.specs.Fit.{IsSchema, AreTables};
 ghost use Rattle.node_engine.specs.Answers.{IsUnderWay, IsIdle, IsLiveTable, walk_of, visit_answer, commit_answer};
@@ -12,6 +14,7 @@ ghost use Rattle.ptc_statement.specs.Fits.{FitsSchemas, IsClients};
 use crate::commits::commit_parts;
 use crate::makes::fresh_parts;
 use crate::parts::Parts;
+use crate::publishing::{MasterFault, publish_parts};
 use crate::rollbacks::rollback_parts;
 use crate::starts::{begin_parts, start_parts};
 use crate::views::{is_under_way, live_in};
@@ -148,6 +151,25 @@ impl Node {
         ensures err { OnErr result (self.new ≡ self.old) }
     {
         let position = commit_parts(alloc, owner, origin, &mut self.parts)?;
+        Ok(position)
+    }
+
+    /// The node's own checksum of a chunk is published: an entry of the checksum tool, which it answers the
+    /// position of, and the master of the chunk's check row. NoCheck comes exactly where the chunk has no
+    /// check row. A refusal changes nothing.
+    pub fn publish_master(
+        &mut self,
+        alloc: Global,
+        table: u32,
+        chunk: u32,
+    ) -> Result<u64, MasterFault>
+        ensures position { IfOk result (λ position. position ≡ length self.new.history) }
+        ensures ok { OnOk result (self.new ≡ after_call (PublishCall table chunk) self.old) }
+        ensures there { OnOk result (IsSome (check_at table chunk (fold self.old.schemas self.old.start self.old.history).checks)) }
+        ensures none { IfErr result (λ fault. (fault ≡ NoCheck) ↔ (check_at table chunk (fold self.old.schemas self.old.start self.old.history).checks ≡ None)) }
+        ensures err { OnErr result (self.new ≡ self.old) }
+    {
+        let position = publish_parts(alloc, table, chunk, &mut self.parts)?;
         Ok(position)
     }
 

@@ -40,12 +40,24 @@ pub fn start_parts(alloc: Global, owner: Owner, statement: Statement, parts: &mu
     ensures kept { PartsKept parts.new }
 {
     let cursor = start_of(alloc, &statement, &parts.schemas)?;
-    parts.txns.start(owner, Walk { statement, cursor });
+    start_at(owner, statement, cursor, parts);
     Ok(())
 }
 
+/// Puts a statement in progress whose walk begins at the cursor, without memory.
+pub fn start_at(owner: Owner, statement: Statement, cursor: Edge, parts: &mut Parts)
+    requires kept { PartsKept parts.old }
+    requires idle { IsIdle owner.0 (node_view parts.old) }
+    requires fits { FitsSchemas parts.old.schemas.tables statement }
+    requires cursor { cursor ≡ start_of parts.old.schemas.tables statement }
+    ensures view { node_view parts.new ≡ after_call (StartCall owner statement) (node_view parts.old) }
+    ensures kept { PartsKept parts.new }
+{
+    parts.txns.start(owner, Walk { statement, cursor });
+}
+
 /// The edge at which a statement's walk begins.
-fn start_of(alloc: Global, statement: &Statement, schemas: &Schemas) -> R<Edge>
+pub fn start_of(alloc: Global, statement: &Statement, schemas: &Schemas) -> R<Edge>
     ensures { IfOk result (λ edge. edge ≡ start_of schemas.now.tables statement.now) }
 {
     match schemas.tables.get(statement.table()) {

@@ -207,7 +207,7 @@ call_kept (Publish table chunk) node fit kept = published_kept node table chunk 
 
 -- the schemas stay
 
-same_schemas : (call : Call) (node : NodeView) → (after_call call node).schemas ≡ node.schemas
+pub same_schemas : (call : Call) (node : NodeView) → (after_call call node).schemas ≡ node.schemas
 same_schemas (Begin owner part) node = at (txn_of owner.0 node.txns)
   where
     at : (o : Option Txn) → (begun_if o owner part node).schemas ≡ node.schemas
