@@ -26,15 +26,15 @@ use Rattle.node_model.specs.declared.txns.Walk.{Walk}
 use Rattle.node_model.specs.declared.txns.Txn.{Txn}
 use Rattle.node_model.specs.Txns.{txn_of}
 use Rattle.node_model.specs.Node.{NodeView, acts, act, act_so_far, seen, seen_by, live_row, live_from, committed_row, is_live, stops, plan_of, plan_excluder, asked, visited_unless, committed}
-use Rattle.node_model.specs.LockFacts.{HoldsGapOver, TxnCovered}
-use Rattle.node_model.specs.Calls.{Call, Begin, Start, Visit, Commit, Rollback, Publish, begun_if, started_idle, started_if, visited_if, visit_if, committed_idle, committed_if, published, after_call, CallFits}
+use Rattle.node_model.specs.LockFacts.{HoldsGapOver, Guards, TxnCovered}
+use Rattle.node_model.specs.Calls.{Call, Begin, Start, Visit, Commit, Rollback, Publish, IsNoCommitOf, GuardedRowsStay, after_calls, fresh_node, begun_if, started_idle, started_if, visited_if, visit_if, committed_idle, committed_if, published, after_call, CallFits}
 use Rattle.node_model.proofs.FactLemmas.{done_left}
 use Rattle.node_model.proofs.StopLemmas.{live_is_stop}
 use Rattle.node_model.proofs.PlanLemmas.{InGap}
 use Rattle.node_model.proofs.VisitLemmas.{sound_in, not_stop_free}
 use Rattle.node_model.proofs.LiveLemmas.{committed_change}
 use Rattle.node_model.proofs.TxnLemmas.{txn_owner}
-use Rattle.node_model.proofs.CallLemmas.{published_row, own_txn}
+use Rattle.node_model.proofs.CallLemmas.{published_row, own_txn, calls_kept, fresh_kept}
 
 -- where nobody else has a key exclusively, its live row is what the transaction has made of the committed one
 pub live_is_own : (node : NodeView) (txn : Txn) (table : ℕ) (key : List Value) → FactsOf node → txn_of txn.owner.0 node.txns ≡ Some txn
@@ -135,19 +135,6 @@ gap_reads node txn walk key facts found current in_gap past = at (exclusive_owne
         one (inr apart) = free (not_stop_free node txn.owner.0 table key no_stop)
             (λ on. facts.alone_on_key a txn.owner.0 table key Exclusive apart (exclusive_found a table key node.held e) on)
 
--- an owner has a lock on a key or holds a gap over it
-abbrev pub Guards : ℕ → ℕ → List Value → List Holding → Type 0
-Guards owner table key held = ((mode : LockMode) × Holds owner table (OnKey key mode) held) ⊎ HoldsGapOver owner table key held
-
--- a call that is no commit of this owner
-abbrev pub IsNoCommitOf : ℕ → Call → Type 0
-IsNoCommitOf a (Begin owner part) = Unit {0}
-IsNoCommitOf a (Start owner statement) = Unit {0}
-IsNoCommitOf a (Visit owner) = Unit {0}
-IsNoCommitOf a (Commit owner origin) = owner.0 ≢ a
-IsNoCommitOf a (Rollback owner) = Unit {0}
-IsNoCommitOf a (Publish table chunk) = Unit {0}
-
 -- what an owner guards nobody else changes
 pub guarded_stays : (call : Call) (node : NodeView) (a table : ℕ) (key : List Value) → IsKept node → IsNoCommitOf a call → Guards a table key node.held
     → committed_row (after_call call node) table key ≡ committed_row node table key
@@ -200,3 +187,7 @@ guarded_stays (Publish of chunk) node a table key kept other guards = at (check_
     at : (o : Option CheckRow) → committed_row (published of chunk o node) table key ≡ committed_row node table key
     at None = refl
     at (Some row) = published_row node of chunk row table key
+
+pub guarded_rows_stay : GuardedRowsStay
+guarded_rows_stay schemas start calls call owner table key are fit other guards =
+    guarded_stays call (after_calls calls (fresh_node schemas start)) owner table key (calls_kept calls (fresh_node schemas start) fit (fresh_kept schemas start are)) other guards

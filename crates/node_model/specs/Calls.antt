@@ -28,7 +28,7 @@ use Rattle.node_model.specs.declared.txns.Walk.{Walk}
 use Rattle.node_model.specs.declared.txns.Txn.{Txn}
 use Rattle.node_model.specs.Txns.{txn_of}
 use Rattle.node_model.specs.Node.{NodeView, committed_row, live_row, begun, started, after_visit, ended, committed, with_entries}
-use Rattle.node_model.specs.LockFacts.{TxnCovered}
+use Rattle.node_model.specs.LockFacts.{Guards, TxnCovered}
 
 pub data Call : Type 0 where
   Begin : (owner : Owner) → (part : Part) → Call
@@ -122,3 +122,20 @@ CommitsLeaveLiveRows =
     (schemas : List Schema) (start : List (List (List Value))) (calls : List Call) (owner : Owner) (origin : Origin) (table : ℕ) (key : List Value)
     → AreTables schemas start → AllByRecursion (CallFits schemas) calls
     → live_row (after_call (Commit owner origin) (after_calls calls (fresh_node schemas start))) table key ≡ live_row (after_calls calls (fresh_node schemas start)) table key
+
+-- a call that is no commit of this owner
+abbrev pub IsNoCommitOf : ℕ → Call → Type 0
+IsNoCommitOf a (Begin owner part) = Unit {0}
+IsNoCommitOf a (Start owner statement) = Unit {0}
+IsNoCommitOf a (Visit owner) = Unit {0}
+IsNoCommitOf a (Commit owner origin) = owner.0 ≢ a
+IsNoCommitOf a (Rollback owner) = Unit {0}
+IsNoCommitOf a (Publish table chunk) = Unit {0}
+
+-- what is committed at a key that an owner has locked, or holds a gap over, is changed by no call but that
+-- owner's commit
+abbrev pub GuardedRowsStay : Type 0
+GuardedRowsStay =
+    (schemas : List Schema) (start : List (List (List Value))) (calls : List Call) (call : Call) (owner table : ℕ) (key : List Value)
+    → AreTables schemas start → AllByRecursion (CallFits schemas) calls → IsNoCommitOf owner call → Guards owner table key (after_calls calls (fresh_node schemas start)).held
+    → committed_row (after_call call (after_calls calls (fresh_node schemas start))) table key ≡ committed_row (after_calls calls (fresh_node schemas start)) table key

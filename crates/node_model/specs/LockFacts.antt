@@ -31,6 +31,10 @@ pub record HoldsGapOver (owner table : ℕ) (key : List Value) (held : List Hold
 abbrev pub IsGuarded : ℕ → ℕ → List Value → LockMode → List Holding → Type 0
 IsGuarded owner table key mode held = Holds owner table (OnKey key mode) held ⊎ HoldsGapOver owner table key held
 
+-- an owner holds a lock of any mode on a key, or a gap over it
+abbrev pub Guards : ℕ → ℕ → List Value → List Holding → Type 0
+Guards owner table key held = ((mode : LockMode) × Holds owner table (OnKey key mode) held) ⊎ HoldsGapOver owner table key held
+
 -- what the owner of a statement holds at a key that the statement has passed
 abbrev pub IsCovered : CommittedRows → List Holding → ℕ → Statement → ℕ → List Value → Type 0
 IsCovered rows held owner (Insert of row) table key =

@@ -6,6 +6,6 @@ pub mod laws;
 pub mod parts;
 pub mod txns;
 
-pub use laws::{a_commit_leaves_live_rows, locks_keep_what_they_cover};
+pub use laws::{a_commit_leaves_live_rows, locked_rows_stay, locks_keep_what_they_cover};
 pub use parts::Part;
 pub use txns::{Txn, Txns, Walk};
