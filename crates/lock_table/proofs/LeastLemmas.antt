@@ -63,12 +63,12 @@ pub least_of_same : (edge : Edge) (keys others : List (List Value)) → ((key : 
 least_of_same edge keys others there back =
     least_unique edge others (least_key_past edge keys) (least_key_past edge others) (least_moved edge keys others (least_key_past edge keys) there back (the_least edge keys)) (the_least edge others)
 
-front : (key : List Value) (xs ys : List (List Value)) → IsAmong key xs → IsAmong key (xs ++ ys)
+pub front : (key : List Value) (xs ys : List (List Value)) → IsAmong key xs → IsAmong key (xs ++ ys)
 front key [] ys i = absurd i
 front key (x ∷ xs) ys (inl e) = inl e
 front key (x ∷ xs) ys (inr i) = inr (front key xs ys i)
 
-back : (key : List Value) (xs ys : List (List Value)) → IsAmong key ys → IsAmong key (xs ++ ys)
+pub back : (key : List Value) (xs ys : List (List Value)) → IsAmong key ys → IsAmong key (xs ++ ys)
 back key [] ys i = i
 back key (x ∷ xs) ys i = inr (back key xs ys i)
 
@@ -76,7 +76,7 @@ deeper : (key x : List Value) (xs ys : List (List Value)) → IsAmong key xs ⊎
 deeper key x xs ys (inl i) = inl (inr i)
 deeper key x xs ys (inr i) = inr i
 
-either : (key : List Value) (xs ys : List (List Value)) → IsAmong key (xs ++ ys) → IsAmong key xs ⊎ IsAmong key ys
+pub either : (key : List Value) (xs ys : List (List Value)) → IsAmong key (xs ++ ys) → IsAmong key xs ⊎ IsAmong key ys
 either key [] ys i = inr i
 either key (x ∷ xs) ys (inl e) = inl (inl e)
 either key (x ∷ xs) ys (inr i) = deeper key x xs ys (either key xs ys i)

@@ -4,8 +4,10 @@
 #![tactic(auto)]
 
 pub mod plans;
+mod visit_laws;
 mod visits;
 mod walk_stops;
 
 pub use plans::Plan;
+pub use visit_laws::stops_are_live_or_locked_by_others;
 pub use visits::next_plan;
