@@ -1,0 +1,4 @@
+pub mod CutLemmas
+pub mod ReservedLemmas
+pub mod FirstLemmas
+pub mod ListLemmas

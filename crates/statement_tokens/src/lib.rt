@@ -1,0 +1,16 @@
+//! The tokens of statement text.
+#![tactic(auto)]
+
+mod first_tokens;
+mod keywords;
+mod text_ends;
+mod token_lists;
+mod words;
+
+pub use first_tokens::next_token;
+pub use text_ends::TextEnd;
+pub use token_lists::tokens_of;
+pub use words::{Keyword, Math, Token, Tokens, Word};
+
+#[cfg(test)]
+mod tests;
