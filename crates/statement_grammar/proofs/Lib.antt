@@ -1,0 +1,9 @@
+pub mod Complete
+pub mod Sound
+pub mod Alive
+pub mod SpotLemmas
+pub mod SentenceLemmas
+pub mod FirstLemmas
+pub mod CutLemmas
+pub mod OneCutLemmas
+pub mod UniqueLemmas

@@ -1,0 +1,14 @@
+pub mod Begins
+pub mod Cut
+pub mod Draft
+pub mod Faults
+pub mod FirstFault
+pub mod Grammar
+pub mod Kinds
+pub mod Laws
+pub mod Machine
+pub mod Sentence
+pub mod SentenceMachine
+pub mod SoFar
+pub mod Terms
+pub mod Unique
