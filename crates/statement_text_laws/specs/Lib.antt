@@ -1,0 +1,4 @@
+pub mod OneText
+pub mod Canonical
+pub mod SpelledWords
+pub mod StatementWords
