@@ -1,14 +1,17 @@
-//! Reads statements: what they say, or their first fault.
+//! Reads statements: what their words mean, what the rules on kinds and heights ask of what is read, and which
+//! fault comes first.
 #![tactic(auto)]
 
-mod drafts;
+mod columns;
+mod fact_laws;
 mod facts;
+mod first_faults;
 mod literals;
-mod operands;
-mod readers;
-mod reading;
 mod spots;
-mod stacks;
-mod states;
 
-pub use reading::read;
+pub use columns::{column_named, sort_of_column, sort_of_word};
+pub use fact_laws::facts_of_parts;
+pub use facts::{Facts, MOST_HEIGHT, Sort, differ};
+pub use first_faults::earlier;
+pub use literals::{negative, value_in};
+pub use spots::{End, Literals, OnChunk, Spot};

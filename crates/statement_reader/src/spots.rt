@@ -1,4 +1,8 @@
-use ptc_statement::Op;
+ghost use Rattle.std.specs.Prelude.{◌≡◌};
+ghost use Rattle.std.specs.Option.{option_map};
+ghost use Rattle.statement_grammar.specs.Sentence.{behind_chunk as chunk_next, behind_edge as edge_next, behind_literals as literals_next, may_end as ends_statement, one, tree_at};
+ghost use Rattle.statement_reader.specs.Spots.{end_of, literals_of, spot_of, tool_of};
+
 use statement_tokens::{Keyword, Math, Word};
 
 /// Which of the two edges of a span.
@@ -71,60 +75,71 @@ pub enum Spot {
     NothingDue,
 }
 
-fn behind_edge(end: End) -> Spot {
+fn behind_edge(end: End) -> Spot
+    ensures { spot_of result ≡ edge_next (end_of end) }
+{
     match end {
         End::Lower => Spot::EdgeTo,
         End::Upper => Spot::UsingDue,
     }
 }
 
-fn behind_literals(of: Literals) -> Spot {
+fn behind_literals(of: Literals) -> Spot
+    ensures { spot_of result ≡ literals_next (literals_of of) }
+{
     match of {
         Literals::OfRow => Spot::EndDue,
         Literals::OfEdge(end) => behind_edge(end),
     }
 }
 
-fn behind_chunk(tool: OnChunk) -> Spot {
+fn behind_chunk(tool: OnChunk) -> Spot
+    ensures { spot_of result ≡ chunk_next (tool_of tool) }
+{
     match tool {
         OnChunk::Checks => Spot::EdgeFrom,
         OnChunk::SetsMaster => Spot::CountDue,
     }
 }
 
-fn when_so(holds: bool, spot: Spot) -> Option<Spot> {
-    if holds { Some(spot) } else { None }
-}
-
-fn is_lower_digit(byte: u8) -> bool {
-    (48 <= byte && byte <= 57) || (97 <= byte && byte <= 102)
-}
-
-/// 32 or 40 hexadecimal digits, with small letters.
-fn is_crc(text: &[u8]) -> bool {
-    if text.len() != 32 && text.len() != 40 {
-        return false;
-    }
-    let mut rest = text;
-    while let Some((byte, more)) = rest.split_first() {
-        if !is_lower_digit(*byte) {
-            return false;
-        }
-        rest = more;
-    }
-    true
-}
-
-fn is(word: &Word, keyword: Keyword) -> bool {
+/// Where the statement's first word leads.
+fn behind_start(word: &Word) -> Option<Spot>
+    ensures { option_map spot_of result ≡ one (spot_of Spot.StatementDue) word.now }
+{
     match word {
-        Word::Keyword(other) => *other == keyword,
-        _ => false,
+        Word::Keyword(keyword) => match keyword {
+            Keyword::Insert | Keyword::Replace => Some(Spot::IntoDue),
+            Keyword::Delete => Some(Spot::FromDue),
+            Keyword::Update => Some(Spot::UpdateTable),
+            Keyword::Select => Some(Spot::StarDue),
+            Keyword::Checksum => Some(Spot::ChunkTable(OnChunk::Checks)),
+            Keyword::SetMaster => Some(Spot::ChunkTable(OnChunk::SetsMaster)),
+            Keyword::ClearChecks => Some(Spot::ClearTable),
+            _ => None,
+        },
+        _ => None,
+    }
+}
+
+/// Where a literal of a list may lead.
+fn behind_literal(of: Literals, word: &Word) -> Option<Spot>
+    ensures { option_map spot_of result ≡ one (spot_of (Spot.LiteralDue of)) word.now }
+{
+    match word {
+        Word::Number(_) | Word::Text(_) | Word::Null => Some(Spot::LiteralEnds(of)),
+        Word::Math(math) => match math {
+            Math::Minus => Some(Spot::DigitsDue(of)),
+            _ => None,
+        },
+        _ => None,
     }
 }
 
 impl Spot {
     /// Where a tree is due: whether it is a condition, and what is due behind it.
-    pub fn tree(self) -> Option<(bool, Spot)> {
+    pub fn tree(self) -> Option<(bool, Spot)>
+        ensures { option_map (λ due. (due.0, spot_of due.1)) result ≡ tree_at (spot_of self) }
+    {
         match self {
             Spot::CondDue => Some((true, Spot::CondEnds)),
             Spot::ExprDue => Some((false, Spot::SetEnds)),
@@ -134,190 +149,14 @@ impl Spot {
     }
 
     /// Where a statement may end.
-    pub fn may_end(self) -> bool {
-        matches!(
-            self,
-            Spot::WhereDue | Spot::CondEnds | Spot::SetEnds | Spot::EndDue | Spot::NothingDue
-        )
-    }
-
-    /// Where the table's name is due.
-    pub fn is_table(self) -> bool {
-        matches!(
-            self,
-            Spot::IntoTable
-                | Spot::DeleteTable
-                | Spot::UpdateTable
-                | Spot::SelectTable
-                | Spot::ChunkTable(_)
-                | Spot::ClearTable
-        )
-    }
-
-    /// What is due behind a single token.
-    pub fn behind(self, word: &Word) -> Option<Spot> {
+    pub fn may_end(self) -> bool
+        ensures { result ≡ ends_statement (spot_of self) }
+    {
         match self {
-            Spot::StatementDue => behind_start(word),
-            Spot::IntoTable
-            | Spot::DeleteTable
-            | Spot::UpdateTable
-            | Spot::SelectTable
-            | Spot::ChunkTable(_)
-            | Spot::ClearTable => when_so(matches!(word, Word::Name(_)), self.behind_table()),
-            Spot::OpenDue(_) | Spot::LiteralDue(_) | Spot::LiteralEnds(_) | Spot::DigitsDue(_) => {
-                self.behind_literal(word)
+            Spot::WhereDue | Spot::CondEnds | Spot::SetEnds | Spot::EndDue | Spot::NothingDue => {
+                true
             }
-            Spot::WhereDue
-            | Spot::CondEnds
-            | Spot::ColumnDue
-            | Spot::EqualsDue
-            | Spot::SetEnds
-            | Spot::StarDue
-            | Spot::SelectWhere
-            | Spot::LockDue
-            | Spot::ForDue
-            | Spot::EndDue => self.behind_clause(word),
-            Spot::ChunkNumber(_)
-            | Spot::EdgeDue(_)
-            | Spot::KindDue
-            | Spot::CountNumber
-            | Spot::CrcText => self.behind_tool(word),
-            _ => self.behind_keyword(word),
+            _ => false,
         }
-    }
-
-    fn behind_table(self) -> Spot {
-        match self {
-            Spot::IntoTable => Spot::ValuesDue,
-            Spot::DeleteTable => Spot::WhereDue,
-            Spot::UpdateTable => Spot::SetDue,
-            Spot::SelectTable => Spot::SelectWhere,
-            Spot::ChunkTable(tool) => Spot::ChunkDue(tool),
-            _ => Spot::EndDue,
-        }
-    }
-
-    fn behind_literal(self, word: &Word) -> Option<Spot> {
-        match self {
-            Spot::OpenDue(of) => when_so(matches!(word, Word::Open), Spot::LiteralDue(of)),
-            Spot::LiteralDue(of) => match word {
-                Word::Number(_) | Word::Text(_) | Word::Null => Some(Spot::LiteralEnds(of)),
-                Word::Math(Math::Minus) => Some(Spot::DigitsDue(of)),
-                _ => None,
-            },
-            Spot::DigitsDue(of) => {
-                when_so(matches!(word, Word::Number(_)), Spot::LiteralEnds(of))
-            }
-            Spot::LiteralEnds(of) => match word {
-                Word::Comma => Some(Spot::LiteralDue(of)),
-                Word::Close => Some(behind_literals(of)),
-                _ => None,
-            },
-            _ => None,
-        }
-    }
-
-    fn behind_clause(self, word: &Word) -> Option<Spot> {
-        match self {
-            Spot::WhereDue => match word {
-                Word::Keyword(Keyword::Where) => Some(Spot::CondDue),
-                Word::Semicolon => Some(Spot::NothingDue),
-                _ => None,
-            },
-            Spot::ColumnDue => when_so(matches!(word, Word::Name(_)), Spot::EqualsDue),
-            Spot::EqualsDue => when_so(matches!(word, Word::Compare(Op::Eq)), Spot::ExprDue),
-            Spot::SetEnds => match word {
-                Word::Comma => Some(Spot::ColumnDue),
-                Word::Keyword(Keyword::Where) => Some(Spot::CondDue),
-                Word::Semicolon => Some(Spot::NothingDue),
-                _ => None,
-            },
-            Spot::StarDue => when_so(matches!(word, Word::Math(Math::Times)), Spot::SelectFrom),
-            Spot::SelectWhere => match word {
-                Word::Keyword(Keyword::Where) => Some(Spot::SelectCond),
-                word => behind_lock(word),
-            },
-            Spot::LockDue => behind_lock(word),
-            Spot::ForDue => when_so(
-                is(word, Keyword::Update) || is(word, Keyword::Share),
-                Spot::EndDue,
-            ),
-            _ => when_so(matches!(word, Word::Semicolon), Spot::NothingDue),
-        }
-    }
-
-    fn behind_tool(self, word: &Word) -> Option<Spot> {
-        match self {
-            Spot::ChunkNumber(tool) => match word {
-                Word::Number(number) => {
-                    when_so(1 <= *number && *number <= 4294967295, behind_chunk(tool))
-                }
-                _ => None,
-            },
-            Spot::EdgeDue(end) => match word {
-                Word::Keyword(Keyword::Low) | Word::Keyword(Keyword::High) => {
-                    Some(behind_edge(end))
-                }
-                Word::Keyword(Keyword::Before) | Word::Keyword(Keyword::After) => {
-                    Some(Spot::OpenDue(Literals::OfEdge(end)))
-                }
-                _ => None,
-            },
-            Spot::KindDue => when_so(
-                is(word, Keyword::Md5) || is(word, Keyword::Sha1),
-                Spot::EndDue,
-            ),
-            Spot::CountNumber => match word {
-                Word::Number(number) => {
-                    when_so(*number <= 18446744073709551615, Spot::CrcDue)
-                }
-                _ => None,
-            },
-            _ => match word {
-                Word::Text(text) => when_so(is_crc(text.as_slice()), Spot::EndDue),
-                _ => None,
-            },
-        }
-    }
-
-    fn behind_keyword(self, word: &Word) -> Option<Spot> {
-        match self {
-            Spot::IntoDue => when_so(is(word, Keyword::Into), Spot::IntoTable),
-            Spot::ValuesDue => when_so(is(word, Keyword::Values), Spot::OpenDue(Literals::OfRow)),
-            Spot::FromDue => when_so(is(word, Keyword::From), Spot::DeleteTable),
-            Spot::SetDue => when_so(is(word, Keyword::Set), Spot::ColumnDue),
-            Spot::SelectFrom => when_so(is(word, Keyword::From), Spot::SelectTable),
-            Spot::InDue => when_so(is(word, Keyword::In), Spot::ShareDue),
-            Spot::ShareDue => when_so(is(word, Keyword::Share), Spot::ModeDue),
-            Spot::ModeDue => when_so(is(word, Keyword::Mode), Spot::EndDue),
-            Spot::ChunkDue(tool) => when_so(is(word, Keyword::Chunk), Spot::ChunkNumber(tool)),
-            Spot::EdgeFrom => when_so(is(word, Keyword::From), Spot::EdgeDue(End::Lower)),
-            Spot::EdgeTo => when_so(is(word, Keyword::To), Spot::EdgeDue(End::Upper)),
-            Spot::UsingDue => when_so(is(word, Keyword::Using), Spot::KindDue),
-            Spot::CountDue => when_so(is(word, Keyword::Cnt), Spot::CountNumber),
-            Spot::CrcDue => when_so(is(word, Keyword::Crc), Spot::CrcText),
-            _ => None,
-        }
-    }
-}
-
-fn behind_start(word: &Word) -> Option<Spot> {
-    match word {
-        Word::Keyword(Keyword::Insert) | Word::Keyword(Keyword::Replace) => Some(Spot::IntoDue),
-        Word::Keyword(Keyword::Delete) => Some(Spot::FromDue),
-        Word::Keyword(Keyword::Update) => Some(Spot::UpdateTable),
-        Word::Keyword(Keyword::Select) => Some(Spot::StarDue),
-        Word::Keyword(Keyword::Checksum) => Some(Spot::ChunkTable(OnChunk::Checks)),
-        Word::Keyword(Keyword::SetMaster) => Some(Spot::ChunkTable(OnChunk::SetsMaster)),
-        Word::Keyword(Keyword::ClearChecks) => Some(Spot::ClearTable),
-        _ => None,
-    }
-}
-
-fn behind_lock(word: &Word) -> Option<Spot> {
-    match word {
-        Word::Keyword(Keyword::For) => Some(Spot::ForDue),
-        Word::Keyword(Keyword::Lock) => Some(Spot::InDue),
-        _ => None,
     }
 }
