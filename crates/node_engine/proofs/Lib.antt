@@ -12,3 +12,4 @@ pub mod FreshLemmas
 pub mod RollbackLemmas
 pub mod CommittedLemmas
 pub mod PublishedLemmas
+pub mod DoneLemmas

@@ -7,3 +7,4 @@ pub mod Dues
 pub mod Undone
 pub mod Fresh
 pub mod NodeParts
+pub mod NextStarts
