@@ -12,4 +12,3 @@ pub mod FreshLemmas
 pub mod RollbackLemmas
 pub mod CommittedLemmas
 pub mod PublishedLemmas
-pub mod DoneLemmas

@@ -7,4 +7,3 @@ pub mod Dues
 pub mod Undone
 pub mod Fresh
 pub mod NodeParts
-pub mod NextStarts

@@ -8,13 +8,11 @@ ghost use Rattle.node_model.specs.Node.{NodeView, begun, ended};
 ghost use Rattle.node_model.specs.Calls.{after_call, fresh_node, Visit as VisitCall, Start as StartCall, Commit as CommitCall, Publish as PublishCall};
 ghost use Rattle.std.specs.List.{AllByRecursion};
 ghost use Rattle.row_types.specs.Fit.{IsSchema, AreTables};
-ghost use Rattle.node_engine.specs.NextStarts.{next_started};
 ghost use Rattle.node_engine.specs.Answers.{IsUnderWay, IsIdle, IsLiveTable, walk_of, visit_answer, commit_answer};
 ghost use Rattle.ptc_statement.specs.Fits.{FitsSchemas, IsClients};
 
 use crate::commits::commit_parts;
 use crate::makes::fresh_parts;
-use crate::next_starts::visit_and_start_parts;
 use crate::parts::Parts;
 use crate::publishing::{MasterFault, publish_parts};
 use crate::rollbacks::rollback_parts;
@@ -190,19 +188,6 @@ impl Node {
         ensures err { OnErr result (self.new ≡ self.old) }
     {
         let answer = visit_parts(alloc, owner, &mut self.parts)?;
-        Ok(answer)
-    }
-
-    /// The next visit of an owner's statement in progress and, where this is done with it, the start of a
-    /// further statement. The memory of both is taken first, and want of it changes nothing.
-    pub fn visit_and_start(&mut self, alloc: Global, owner: Owner, next: Statement) -> R<Visit>
-        requires under_way { IsUnderWay owner.0 self.old }
-        requires fits { FitsSchemas self.old.schemas next }
-        ensures answer { IfOk result (λ answer. answer ≡ visit_answer owner.0 self.old) }
-        ensures ok { OnOk result (self.new ≡ next_started (visit_answer owner.0 self.old) owner next (after_call (VisitCall owner) self.old)) }
-        ensures err { OnErr result (self.new ≡ self.old) }
-    {
-        let answer = visit_and_start_parts(alloc, owner, next, &mut self.parts)?;
         Ok(answer)
     }
 }
