@@ -41,12 +41,11 @@ pub each_table_line : (P : EqualLine → Type 0) (replica first : ℕ) (source o
 each_table_line P replica first [] own each = tt
 each_table_line P replica first (rows ∷ source) [] each = tt
 each_table_line P replica first (rows ∷ source) (other ∷ own) each =
-    let here : first + 0 ≡ first = omega arith in
-    (
+    let here : first + 0 ≡ first = omega arith in (
       subst (λ (n : ℕ). P (record { replica = replica; table = n; equal = rows_equal rows other })) here (each 0 (omega arith)),
       each_table_line P replica (first + 1) source own (λ k lt.
-      let next : first + suc k ≡ first + 1 + k = omega arith in
-      subst (λ (n : ℕ). P (record { replica = replica; table = n; equal = rows_equal (table_rows source k) (table_rows own k) })) next (each (suc k) (omega (arith, lt))))
+          let next : first + suc k ≡ first + 1 + k = omega arith in
+          subst (λ (n : ℕ). P (record { replica = replica; table = n; equal = rows_equal (table_rows source k) (table_rows own k) })) next (each (suc k) (omega (arith, lt)))),
     )
 
 -- and what holds of those of each replica holds of all, the first of this number

@@ -66,6 +66,20 @@ impl Both {
         Ok(is_same(replaced.as_ref(), id, before))
     }
 
+    /// Puts a value at a key of both, in the table by reserved capacity: whether both answer the same.
+    fn put_back(&mut self, alloc: Global, id: i64, v: i64) -> R<bool> {
+        let row = row(alloc, id, v)?;
+        if self.table.spare() == 0 {
+            self.table.reserve(3)?;
+        }
+        if !self.table.takes(&row) || self.table.spare() == 0 {
+            return Err(Memory);
+        }
+        let replaced = self.table.put_back(row);
+        let before = self.map.insert(id, v)?;
+        Ok(is_same(replaced.as_ref(), id, before))
+    }
+
     /// Takes a key away from both: whether both answer the same.
     fn remove(&mut self, alloc: Global, id: i64) -> R<bool> {
         let gone = self.table.remove(&key(alloc, id)?);
@@ -151,5 +165,57 @@ fn keys_in_falling_order(rt: HostRuntime) -> Result<(), Fail> {
 #[test]
 fn keys_in_mixed_order(rt: HostRuntime) -> Result<(), Fail> {
     assert!(rt; keeps_to_the_map(rt.alloc(), KeyOrder::Mixed)?);
+    Ok(())
+}
+
+/// Numbers that look random, by a linear congruence.
+#[derive(Drop)]
+struct Draws {
+    state: u32,
+}
+
+impl Draws {
+    /// The next of them, of 16 bits.
+    fn draw(&mut self) -> u32 {
+        self.state = self
+            .state
+            .wrapping_mul(1_664_525)
+            .wrapping_add(1_013_904_223);
+        self.state >> 16
+    }
+}
+
+/// Does one of the calls to both: whether both answer the same.
+fn call(alloc: Global, both: &mut Both, which: u32, id: i64, v: i64) -> R<bool> {
+    match which {
+        0 | 1 | 2 => both.put(alloc, id, v),
+        3 => both.put_back(alloc, id, v),
+        4 | 5 | 6 => both.remove(alloc, id),
+        _ => both.get(alloc, id),
+    }
+}
+
+/// Does 4,000 calls of the first so many kinds, each on one of 2,003 keys; a put stands in for the others.
+fn calls_agree(alloc: Global, both: &mut Both, draws: &mut Draws, kinds: u32) -> R<bool> {
+    for number in 0..4_000i64 {
+        let which = draws.draw() % 8;
+        let id = (draws.draw() % 2_003) as i64;
+        let which = if which < kinds { which } else { 0 };
+        if !call(alloc, both, which, id, number)? {
+            return Ok(false);
+        }
+    }
+    Ok(both.agree())
+}
+
+/// A table that grows, stays as long as it is, and is emptied, is as the map is all the way.
+#[test]
+fn random_calls(rt: HostRuntime) -> Result<(), Fail> {
+    let alloc = rt.alloc();
+    let mut both = Both::new(alloc);
+    let mut draws = Draws { state: 7 };
+    for kinds in [5, 8, 8, 5, 8u32] {
+        assert!(rt; calls_agree(alloc, &mut both, &mut draws, kinds)?);
+    }
     Ok(())
 }

@@ -303,3 +303,34 @@ fn many_rows_rise_by_key(rt: HostRuntime) -> Result<(), Fail> {
     assert!(rt; copy.len() == 2000 && rising(copy.each(&Span::whole())) == Some(2000));
     Ok(())
 }
+
+/// The keys from 300 down to 1.
+fn falling(alloc: Global) -> R<Table> {
+    let mut table = Table::new(alloc, 1);
+    for number in 0..300u16 {
+        put(&mut table, row(alloc, 300 - number as i64, number as i64)?)?;
+    }
+    Ok(table)
+}
+
+/// The same without those that 3 divides.
+fn thirds_removed(alloc: Global) -> R<Table> {
+    let mut table = falling(alloc)?;
+    for number in 1..=100u16 {
+        table.remove(&key(alloc, number as i64 * 3)?);
+    }
+    Ok(table)
+}
+
+/// Rows of pages that were split and joined.
+#[test]
+fn pages_are_split_and_joined(rt: HostRuntime) -> Result<(), Fail> {
+    let alloc = rt.alloc();
+    let table = thirds_removed(alloc)?;
+    let rows = table.rows(alloc, &Span::whole())?;
+    assert!(rt; rows.len() == 200);
+    assert!(rt; is_key(table.nth(&Edge::Low, 200), Some(299)));
+    assert!(rt; is_key(table.next(&Edge::After(key(alloc, 2)?)), Some(4)));
+    assert!(rt; is_key(table.prev(&Edge::Before(key(alloc, 4)?)), Some(2)));
+    Ok(())
+}
