@@ -119,7 +119,7 @@ impl Node {
         live_in(&self.parts, number)
     }
 
-    /// Begins a transaction of an owner that has none; want of memory changes nothing.
+    /// Begins a transaction of an owner that has none; out of memory changes nothing.
     pub fn begin(&mut self, alloc: Global, owner: Owner, part: Part) -> R<()>
         requires { txn_of owner.0 self.old.txns ≡ None }
         ensures ok { OnOk result (self.new ≡ begun owner part self.old) }
@@ -129,7 +129,7 @@ impl Node {
         Ok(())
     }
 
-    /// Starts a statement in a transaction that has none in progress; want of memory changes nothing.
+    /// Starts a statement in a transaction that has none in progress; out of memory changes nothing.
     pub fn start(&mut self, alloc: Global, owner: Owner, statement: Statement) -> R<()>
         requires idle { IsIdle owner.0 self.old }
         requires fits { FitsSchemas self.old.schemas statement }
@@ -142,7 +142,7 @@ impl Node {
 
     /// The logged statements of an owner's transaction become an entry of the history, all at once, and the
     /// transaction and all that it holds are gone. It answers the entry's position; none is written where
-    /// no statement is logged and the origin is a session. Want of memory changes nothing.
+    /// no statement is logged and the origin is a session. Out of memory changes nothing.
     pub fn commit(&mut self, alloc: Global, owner: Owner, origin: Origin) -> R<Option<u64>>
         requires idle { IsIdle owner.0 self.old }
         requires clients { AllByRecursion IsClients (done_of (txn_of owner.0 self.old.txns)) }
@@ -180,7 +180,7 @@ impl Node {
         rollback_parts(owner, &mut self.parts);
     }
 
-    /// The next visit of an owner's statement in progress; want of memory changes nothing.
+    /// The next visit of an owner's statement in progress; out of memory changes nothing.
     pub fn visit(&mut self, alloc: Global, owner: Owner) -> R<Visit>
         requires { IsUnderWay owner.0 self.old }
         ensures answer { IfOk result (λ answer. answer ≡ visit_answer owner.0 self.old) }

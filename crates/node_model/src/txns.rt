@@ -63,7 +63,7 @@ impl Txns {
         txn_in(self.items.as_slice(), owner)
     }
 
-    /// A transaction that begins, of an owner that has none; want of memory changes nothing.
+    /// A transaction that begins, of an owner that has none; out of memory changes nothing.
     #[tactic(auto, using(crate::proofs::TxnLemmas::with_absent))]
     pub fn begin(&mut self, txn: Txn) -> R<()>
         requires { txn_of txn.owner.0 self.old ≡ None }
