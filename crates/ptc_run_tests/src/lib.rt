@@ -8,6 +8,4 @@ mod file_texts;
 #[cfg(test)]
 mod read_tests;
 #[cfg(test)]
-mod summary_tests;
-#[cfg(test)]
 mod top_tests;

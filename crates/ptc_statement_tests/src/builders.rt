@@ -53,10 +53,6 @@ pub fn key_compare(op: Op, value: i64) -> Cond {
     compare(op, Expr::Cell(0), number(value))
 }
 
-pub fn not(alloc: Global, cond: Cond) -> R<Cond> {
-    Ok(Cond::Not(Boxed::new(alloc, cond)?))
-}
-
 pub fn and(alloc: Global, left: Cond, right: Cond) -> R<Cond> {
     Ok(Cond::And(Boxed::new(alloc, left)?, Boxed::new(alloc, right)?))
 }
@@ -67,13 +63,6 @@ pub fn or(alloc: Global, left: Cond, right: Cond) -> R<Cond> {
 
 pub fn insert(alloc: Global, id: i64, value: i64) -> R<Statement> {
     Ok(Statement::Insert {
-        table: 0,
-        row: row(alloc, id, value)?,
-    })
-}
-
-pub fn replace(alloc: Global, id: i64, value: i64) -> R<Statement> {
-    Ok(Statement::Replace {
         table: 0,
         row: row(alloc, id, value)?,
     })
