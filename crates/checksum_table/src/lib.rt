@@ -2,9 +2,9 @@
 //! (pt-table-checksum's manual, the option --replicate and its table `checksums`).
 #![tactic(auto)]
 
-pub mod check_laws;
-pub mod check_rows;
-pub mod checks;
+mod check_laws;
+mod check_rows;
+mod checks;
 mod places;
 
 pub use check_laws::{check_rows_are_a_map, digest_test_is_equality, last_chunk_is_the_greatest};

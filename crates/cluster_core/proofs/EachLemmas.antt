@@ -79,7 +79,7 @@ slice_get_none [] i none = omega arith
 slice_get_none (x ∷ xs) zero none = absurd (cc)
 slice_get_none (x ∷ xs) (suc i) none = omega (arith, slice_get_none xs i none)
 
--- the element after the front of a list
+-- the element after a prefix of a list
 pub slice_get_after : {A : Type 0} (front : List A) (x : A) (rest : List A) → slice_get (front ++ x ∷ rest) (length front) ≡ Some x
 slice_get_after [] x rest = refl
 slice_get_after (y ∷ front) x rest = slice_get_after front x rest

@@ -67,10 +67,6 @@ pub played_behind : (items : List Item) (w : WorldView) → w.unplayed ≡ [] �
 played_behind [] w none = none
 played_behind (item ∷ items) w none = played_behind items (step item w) (step_behind item w none)
 
--- a turn of an actor, as an item that is played
-pub turn_plays : (actor : Actor) (old now new : WorldView) (moved : Bool) → Takes (turn actor old) moved old now → new ≡ behind_item now → Plays (Turn actor) moved old new
-turn_plays actor old now new moved takes is = record { did = takes.did; state = is ∙ ap behind_item takes.state }
-
 -- ---- turns behind the schedule
 
 -- no turn yet
@@ -178,12 +174,6 @@ took_session old now new i moved step_moved within so_far plays =
     subst (λ (all : List Item). TookTurns old new all (moved || step_moved)) (sym (sessions_from-more 1 old.sessions i within))
     (took_more old now new (sessions_from 1 (take i old.sessions)) (Turn (Session (i + 1))) moved step_moved so_far plays)
 
-pub took_sessions : (old now : WorldView) (i : ℕ) (moved : Bool) → i ≡ length old.sessions
-    → TookTurns old now (sessions_from 1 (take i old.sessions)) moved
-    → TookTurns old now (sessions_from 1 old.sessions) moved
-took_sessions old now i moved all so_far =
-    subst (λ (views : List SessionView). TookTurns old now (sessions_from 1 views) moved) (ap (λ n. take n old.sessions) all ∙ take-length old.sessions) so_far
-
 -- then the tool
 pub took_tool : (old now new : WorldView) (moved step_moved : Bool)
     → TookTurns old now (sessions_from 1 old.sessions) moved
@@ -203,14 +193,6 @@ took_worker old now new i moved step_moved within so_far plays =
     ∙ ap (λ (rest : List Item). sessions ++ Turn Tool ∷ rest) (sym (workers_from-more 1 old.replicas i within)) in
     subst (λ (items : List Item). TookTurns old new items (moved || step_moved)) all
     (took_more old now new (sessions ++ Turn Tool ∷ workers_from 1 (take i old.replicas)) (Turn (Worker (i + 1) 1)) moved step_moved so_far plays)
-
--- a whole round
-pub took_round : (old now : WorldView) (i : ℕ) (moved : Bool) → i ≡ length old.replicas
-    → TookTurns old now (sessions_from 1 old.sessions ++ Turn Tool ∷ workers_from 1 (take i old.replicas)) moved
-    → TookTurns old now (order old) moved
-took_round old now i moved all so_far =
-    subst (λ (nodes : List NodeView). TookTurns old now (sessions_from 1 old.sessions ++ Turn Tool ∷ workers_from 1 nodes) moved)
-    (ap (λ n. take n old.replicas) all ∙ take-length old.replicas) so_far
 
 -- ---- the schedule, and then rounds
 
@@ -277,14 +259,6 @@ rounds_more : (count : ℕ) (w : WorldView) → round (rounds count w) ≡ round
 rounds_more zero w = refl
 rounds_more (suc count) w = rounds_more count (round w)
 
-pub runs_none : (first now : WorldView) → now ≡ played first.unplayed first → now.unplayed ≡ [] → RunsSoFar first now
-runs_none first now is none = record {
-  count = zero;
-  reached = is;
-  behind = none;
-  items = record { items = first.unplayed; more = []; schedule_first = ap (λ (xs : List Item). first.unplayed ++ xs) (sym none); reached = is };
-}
-
 pub runs_more : (first now next : WorldView) (moved : Bool) → RunsSoFar first now → TookTurns now next (order now) moved → RunsSoFar first next
 runs_more first now next moved so_far took = record {
   count = suc so_far.count;
@@ -292,15 +266,6 @@ runs_more first now next moved so_far took = record {
   behind = took.behind;
   items = reaches_more first now next so_far.items (took_reaches now next (order now) moved so_far.behind took);
 }
-
-pub runs_end : (first now next : WorldView) (moved : Bool) → RunsSoFar first now → TookTurns now next (order now) moved → moved ≡ false → EndsIn first next
-runs_end first now next moved so_far took none =
-    let still = took.still none in
-    record {
-      count = so_far.count;
-      reached = still.0 ∙ so_far.reached;
-      still = subst IsStill (sym still.0) still.1;
-    }
 
 -- what holds anyway holds after an error
 pub on_err_of : {T E P : Type 0} (r : Result T E) → P → OnErr r P

@@ -12,16 +12,11 @@ use Rattle.ptc_statement.specs.Effect.{table_of, rows_after}
 use Rattle.statement_log.specs.declared.entries.Entry.{Entry}
 use Rattle.history.specs.Replay.{Replayed, table_rows, tables_after, after_statement, after_statements, after_entry, position_of, replay_from}
 use Rattle.report_text.specs.declared.summaries.EqualLine.{EqualLine}
+use Rattle.history.proofs.EqualLemmas.{count_after}
 use Rattle.cluster_core.specs.Node.{NodeView, replayed_of}
 use Rattle.cluster_core.specs.Summary.{rows_equal, equals_on, equals_from}
 use Rattle.cluster_core.proofs.EachLemmas.{each_append}
 use Rattle.cluster_laws.specs.Headline.{HasEqualLine}
-
--- no statement makes a table or takes one away
-count_after : (schemas : List Schema) (statement : Statement) (tables : TableRows) → length (tables_after schemas statement tables) ≡ length tables
-count_after schemas statement tables =
-    elim (slice_get schemas (table_of statement)) as (λ (o : Option Schema). length (option_map_or (λ (schema : Schema). slice_set tables (table_of statement) (rows_after schema statement (table_rows tables (table_of statement)))) o tables) ≡ length tables)
-    [ None ↦ refl | Some schema ↦ length-set tables (table_of statement) (rows_after schema statement (table_rows tables (table_of statement))) ]
 
 count_after_all : (schemas : List Schema) (position : ℕ) (statements : List Statement) (here : Replayed) → length (after_statements schemas position statements here).tables ≡ length here.tables
 count_after_all schemas position [] here = refl

@@ -41,7 +41,8 @@ set_elsewhere zero (suc table) new (x ∷ xs) apart = refl
 set_elsewhere (suc place) zero new (x ∷ xs) apart = refl
 set_elsewhere (suc place) (suc table) new (x ∷ xs) apart = set_elsewhere place table new xs (λ e. apart (ap suc e))
 
-count_after : (schemas : List Schema) (statement : Statement) (tables : TableRows) → length (tables_after schemas statement tables) ≡ length tables
+-- no statement makes a table or takes one away
+pub count_after : (schemas : List Schema) (statement : Statement) (tables : TableRows) → length (tables_after schemas statement tables) ≡ length tables
 count_after schemas statement tables =
     elim (slice_get schemas (table_of statement)) as (λ (o : Option Schema). length (option_map_or (λ (schema : Schema). slice_set tables (table_of statement) (rows_after schema statement (table_rows tables (table_of statement)))) o tables) ≡ length tables)
     [ None ↦ refl | Some schema ↦ length-set tables (table_of statement) (rows_after schema statement (table_rows tables (table_of statement))) ]

@@ -70,7 +70,7 @@ pub follows_more : (log history : List Entry) (entry : Entry)
 follows_more log history entry before e =
     follows_from_more log 0 history (applying (applied_of history + 1) entry) before (entry, e, refl, refl)
 
--- a front of a history that follows the log, and the item behind it
+-- a prefix of a history that follows the log, and the item behind it
 pub follows_front : (log : List Entry) (done : ℕ) (front rest : List Entry) → FollowsFrom log done (front ++ rest) → FollowsFrom log done front
 follows_front log done [] rest h = tt
 follows_front log done (item ∷ front) rest h = (h.0, follows_front log (position_of done item.origin) front rest h.1)

@@ -297,7 +297,7 @@ agree_next schemas source replica table chunk front rest item (Local session) wr
 agree_next schemas source replica table chunk front rest item (Applied number) written masters follows parts by next before =
     agree_applied schemas source replica table chunk front rest item next.0 written masters follows parts next.1 (by ∙ ap (λ n. Applied n) next.2) next.3 before
 
--- whatever follows a front of the history
+-- whatever follows a prefix of the history
 agree_on : (schemas : List Schema) (source replica : NodeLog) (table chunk : ℕ) (front rest : List Entry)
     → EachIsWritten source.entries
     → MastersAreTrue schemas source

@@ -2,4 +2,6 @@
 //! verdict on a replica's check row compares.
 #![tactic(auto)]
 
-pub mod laws;
+mod laws;
+
+pub use laws::{each_verdict_compares, equal_tables_stay_equal};

@@ -4,8 +4,7 @@ ghost use Rattle.row_types.specs.Order.{is_past_edge};
 ghost use Rattle.row_types.specs.KeyRows.{AreOrdered, IsNotNull, rows_past, rows_before};
 ghost use Rattle.ordered_table.specs.Places.{IsCut, IsPlaced, is_past, is_there};
 
-use row_types::keys::compare_values;
-use row_types::{Edge, Row, Value};
+use row_types::{Edge, Row, Value, compare_values};
 
 /// Where the row of a key stands, or would stand.
 #[derive(Clone, Copy, Debug, PartialEq, Eq)]

@@ -15,7 +15,7 @@ Appends old new bs = new ≡ option_map (λ held. held ++ bs) old
 abbrev pub IsAtEnd : Option (List ℕ) → Type 0
 IsAtEnd known = IfSome known (λ rest. rest ≡ [])
 
--- the bytes written grow by a front of text that is not the whole
+-- the bytes written grow by a prefix of text that is not the whole
 pub record AppendsFront (old new : Option (List ℕ)) (text : List ℕ) : Type 0 where
   pub size : ℕ
   pub is_front : size < length text

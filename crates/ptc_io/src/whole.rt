@@ -88,7 +88,7 @@ fn read_piece<I: Source>(
     Ok(count)
 }
 
-/// Writes the whole text, and after an error a front of it. Nothing is written for an empty text.
+/// Writes the whole text, and after an error a prefix of it. Nothing is written for an empty text.
 pub fn write_all<O: Sink>(output: &mut O, text: &[u8]) -> Result<(), Failed>
     ensures whole { OnOk result (Appends (O.written output.old) (O.written output.new) text.now) }
     ensures front { OnErr result

@@ -1,4 +1,4 @@
--- The lines of a file of the first form: a front of them goes on in one way.
+-- The lines of a file of the first form: a prefix of them goes on in one way.
 use Rattle.std.proofs.Common.{◌≡◌, ℕ, ◌+◌, true, Option, None, Some, List, [], ◌∷◌, ◌++◌, map, length, refl, sym, ap, subst, ◌∙◌, append_assoc, arith, inl, inr, length-append, not, eqb}
 use Rattle.std.specs.Prelude.{codes, is_some, Bool}
 use Rattle.std.specs.List.{AllByRecursion, concat, list_all}

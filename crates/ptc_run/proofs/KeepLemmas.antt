@@ -17,12 +17,6 @@ source_rows_push rows row = filter-append (λ (r : RowLine). is_for_source r.nod
 replica_rows_push : (rows : List RowLine) (row : RowLine) → replica_rows (rows ++ row ∷ []) ≡ replica_rows rows ++ cond (is_for_replica row.node) (row ∷ []) []
 replica_rows_push rows row = filter-append (λ (r : RowLine). is_for_replica r.node) rows (row ∷ [])
 
-pub keeps_both_more : (nodes : Nodes) (rows : List RowLine) (row : RowLine) → Keeps nodes.source (source_rows rows ++ cond (is_for_source row.node) (row ∷ []) []) → Keeps nodes.replica (replica_rows rows ++ cond (is_for_replica row.node) (row ∷ []) []) → KeepsBoth nodes (rows ++ row ∷ [])
-keeps_both_more nodes rows row h k = record {
-  source = subst (Keeps nodes.source) (sym (source_rows_push rows row)) h;
-  replica = subst (Keeps nodes.replica) (sym (replica_rows_push rows row)) k;
-}
-
 -- ---- a node's keys with one line more
 
 was_new : (b : Bool) (rows : List RowLine) (row : RowLine) → IsTrue b → AreDistinct (keys_of (rows ++ cond b (row ∷ []) [])) → IsNotAmong row.key (keys_of rows)

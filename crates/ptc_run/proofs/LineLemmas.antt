@@ -123,6 +123,3 @@ other_line bytes line expected rest more h ne k = ne (let e : line ∷ rest ≡ 
 
 pub front_is : (bytes beginning more front : List ℕ) → front ≡ take (length beginning) bytes → bytes ≡ beginning ++ more → front ≡ beginning
 front_is bytes beginning more front h e = h ∙ ap (take (length beginning)) e ∙ take_at beginning more (length beginning) refl
-
-pub long_enough : (bytes beginning more : List ℕ) → bytes ≡ beginning ++ more → length bytes < length beginning → ⊥
-long_enough bytes beginning more e lt = omega (arith, ap length e, length-append beginning more)

@@ -87,9 +87,6 @@ row_taken bytes nodes after rest left count h t = record {
   room = let shorter = t.shorter in let room = h.room in omega arith;
 }
 
-pub rows_done : (bytes : List ℕ) (nodes after : Nodes) (rest : List ℕ) (count : ℕ) (h : RowsSoFar bytes nodes rest count) → KeepsBoth after h.rows → EndsRows h.rows (lines_of rest) → RowsRead bytes after rest count
-rows_done bytes nodes after rest count h k ends = record { rows = h.rows; allowed = h.allowed; keeps = k; lines = h.lines; ends = ends; counted = h.counted }
-
 -- ---- the script
 
 pub record StatementsSoFar (bytes : List ℕ) (first : ℕ) (script : List ScriptLine) (rest : List ℕ) (count : ℕ) : Type 0 where
@@ -139,9 +136,6 @@ pub record ScheduleSoFar (bytes : List ℕ) (some_session : Bool) (before : ℕ)
   pub lines : lines_of bytes ≡ map schedule_line schedule ++ lines_of rest
   pub counted : count ≡ before + length schedule
   pub room : count + length rest ≤ before + length bytes
-
-pub no_schedule : (bytes : List ℕ) (some_session : Bool) (before : ℕ) (items : List Item) → ◌≡◌ {A = List Item} items [] → ScheduleSoFar bytes some_session before items bytes before
-no_schedule bytes some_session before items none = record { schedule = []; allowed = tt; is_schedule = none; lines = refl; counted = omega arith; room = omega arith }
 
 pub words_taken : (bytes : List ℕ) (some_session : Bool) (before : ℕ) (items after : List Item) (rest left : List ℕ) (count : ℕ) (words : List ScheduleWord) → ScheduleSoFar bytes some_session before items rest count → WordsRead rest some_session words left → ◌≡◌ {A = List Item} after (items ++ items_of words) → ScheduleSoFar bytes some_session before after left (count + 1)
 words_taken bytes some_session before items after rest left count words h t pushed = record {

@@ -114,13 +114,6 @@ schedule-AreLines (words ∷ schedule) = (schedule_line-IsLine words, schedule-A
 
 -- ---- the steps of the code
 
--- a text that begins with none of the three begins with no word
-pub no_word : (some_session : Bool) (bytes : List ℕ) → ((more : List ℕ) → bytes ≡ codes " c" ++ more → ⊥) → ((more : List ℕ) → bytes ≡ codes " r1" ++ more → ⊥) → (IsTrue some_session → (more : List ℕ) → bytes ≡ codes " s1" ++ more → ⊥)
-    → (word : ScheduleWord) (more : List ℕ) → AllowedWord some_session word → bytes ≡ word_text word ++ more → ⊥
-no_word some_session bytes tool worker session Session more allowed e = session allowed more e
-no_word some_session bytes tool worker session Tool more allowed e = tool more e
-no_word some_session bytes tool worker session Worker more allowed e = worker more e
-
 pub record WordsSoFar (text : List ℕ) (some_session : Bool) (words : List ScheduleWord) (rest : List ℕ) : Type 0 where
   pub allowed : AllowedWords some_session words
   pub parts : text ≡ flat_map word_text words ++ rest
@@ -129,13 +122,6 @@ pub no_words : (text : List ℕ) (some_session : Bool) (words : List ScheduleWor
 no_words text some_session words none = record {
   allowed = subst (AllowedWords some_session) (sym none) tt;
   parts = ap (λ (x : List ScheduleWord). flat_map word_text x ++ text) (sym none);
-}
-
-pub word_taken : (text : List ℕ) (some_session : Bool) (words after : List ScheduleWord) (word : ScheduleWord) (rest left : List ℕ) → WordsSoFar text some_session words rest → WordRead rest some_session word left → ◌≡◌ {A = List ScheduleWord} after (words ++ word ∷ []) → WordsSoFar text some_session after left
-word_taken text some_session words after word rest left h w pushed = record {
-  allowed = subst (AllowedWords some_session) (sym pushed) (all_append (AllowedWord some_session) words (word ∷ []) h.allowed (w.allowed, tt));
-  parts = h.parts ∙ ap (λ (x : List ℕ). flat_map word_text words ++ x) w.text ∙ sym (append_assoc (flat_map word_text words) (word_text word) left)
-      ∙ ap (λ (x : List ℕ). x ++ left) (flat_map_more word_text [] words word) ∙ ap (λ (x : List ScheduleWord). flat_map word_text x ++ left) (sym pushed);
 }
 
 pub is_schedule : (line text rest : List ℕ) (some_session : Bool) (words : List ScheduleWord) → line ≡ codes "SCHEDULE" ++ text → WordsSoFar text some_session words rest → rest ≡ 10 ∷ [] → (line ≡ schedule_line words) × AllowedWords some_session words

@@ -44,13 +44,6 @@ is_some-none : {X : Type 0} (o : Option X) → IsSome o → o ≡ None → ⊥
 is_some-none None h e = absurd cc
 is_some-none (Some x) h e = absurd cc
 
-pub keeps_none : (kept : BTreeMap ℤ ℤ) → kept.entries ≡ [] → Keeps kept []
-keeps_none kept e = record {
-  same = ap (map entry_values) e;
-  absent = λ key h. tt;
-  present = λ key h n. is_some-none (get int_cmp kept key) h (ap (lookup (is_at (int_cmp key))) e);
-}
-
 tied : (key : ℤ) → is_at (int_cmp key) key ≡ true
 tied key = ap is_eq (tied_itself int_cmp_total key)
 

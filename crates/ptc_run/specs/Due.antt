@@ -53,7 +53,7 @@ pub record WroteDue (words : List (List ℕ)) (input written_before written_afte
   pub due : Due words input code text
   pub appended : Appends written_before written_after text
 
--- a front of what is due was written, and nothing else
+-- a prefix of what is due was written, and nothing else
 pub record WroteFront (words : List (List ℕ)) (input written_before written_after : Option (List ℕ)) : Type 0 where
   pub code : ℕ
   pub text : List ℕ

@@ -48,8 +48,8 @@ impl From<Memory> for NoAnswer {
 /// the report of the run, or the line that refuses the words or the file.
 ///
 /// The status is 0, or 16 where the report has a DIFFER line; 1 where the words or the file are
-/// refused; 2 where the source failed, and 4 for want of memory, both with nothing written; 3 where
-/// the sink failed, with a front of what was due written. Faults are met in the order words,
+/// refused; 2 where the source failed, and 4 when out of memory, both with nothing written; 3 where
+/// the sink failed, with a prefix of what was due written. Faults are met in the order words,
 /// reading, workload, run, writing.
 pub fn ptc<I: Source, O: Sink>(
     alloc: Global,
@@ -70,11 +70,11 @@ pub fn ptc<I: Source, O: Sink>(
     ensures taken { TakesAtMost 16777217 (I.left input.old) (I.left input.new) }
     ensures refused { result.code ≡ 1 → AreTaken (map string_bytes words.now) → WasReadOut (I.left input.old) (I.left input.new) }
 
-    // A source that failed, or want of memory, leaves the sink as it was.
+    // A source that failed, and running out of memory, leave the sink as it was.
     ensures read { result.code ≡ 2 → AreTaken (map string_bytes words.now) × HasRisen (I.faults input.old) (I.faults input.new) × (output.new ≡ output.old) }
     ensures memory { result.code ≡ 4 → output.new ≡ output.old }
 
-    // A sink that failed has a front of what is due.
+    // A sink that failed has a prefix of what is due.
     ensures write { result.code ≡ 3 → HasRisen (O.faults output.old) (O.faults output.new) × WroteFront (map string_bytes words.now) (I.left input.old) (O.written output.old) (O.written output.new) }
 
     // Words that are refused leave the source as it was.

@@ -9,6 +9,7 @@ use Rattle.row_types.specs.declared.table_schema.Schema.{Schema}
 use Rattle.row_types.specs.Order.{key_cmp, has}
 use Rattle.row_types.specs.Fit.{key_of, IsTable, with_row}
 use Rattle.row_types.proofs.OrderLemmas.{keys_exact}
+use Rattle.row_types.proofs.KeyRowLemmas.{put_at, put_there}
 use Rattle.ptc_statement.specs.declared.statements.Statement.{Statement}
 use Rattle.ptc_statement.specs.declared.statements.Statement.TheVariants.{Insert, Replace, Delete, Update, LockRead, Check, SetMaster, ClearChecks}
 use Rattle.ptc_statement.specs.Reach.{reach_of}
@@ -62,49 +63,18 @@ changed_at schema statement key (row ∷ rows) absent of table =
     changed_first schema statement key row rows (is_eq (key_cmp key (key_of schema row))) refl of table
     (changed_at schema statement key rows absent of table.2)
 
-apart_from : (schema : Schema) (key row other : List Value) → key_cmp (key_of schema row) (key_of schema other) ≡ Equal → is_eq (key_cmp key (key_of schema row)) ≡ false
-    → is_eq (key_cmp key (key_of schema other)) ≡ false
-apart_from schema key row other tie apart =
-    ap (λ (k : List Value). is_eq (key_cmp key k)) (sym (keys_exact (key_of schema row) (key_of schema other) tie)) ∙ apart
-
-replace_other_at : (schema : Schema) (key row other : List Value) (others : List (List Value)) (o : Ordering) → key_cmp (key_of schema row) (key_of schema other) ≡ o
-    → is_eq (key_cmp key (key_of schema row)) ≡ false
-    → row_at schema key (with_row schema row others) ≡ row_at schema key others
-    → row_at schema key (match_ordering o (row ∷ other ∷ others) (row ∷ others) (other ∷ with_row schema row others)) ≡ row_at schema key (other ∷ others)
-replace_other_at schema key row other others Less e apart more = ap (λ (b : Bool). cond b (Some row) (row_at schema key (other ∷ others))) apart
-replace_other_at schema key row other others Equal e apart more =
-    ap (λ (b : Bool). cond b (Some row) (row_at schema key others)) apart
-    ∙ ap (λ (b : Bool). cond b (Some other) (row_at schema key others)) (sym (apart_from schema key row other e apart))
-replace_other_at schema key row other others Greater e apart more =
-    ap (cond (is_eq (key_cmp key (key_of schema other))) (Some other)) more
-
 -- it leaves the other keys
 replace_other : (schema : Schema) (key row : List Value) (rows : List (List Value)) → is_eq (key_cmp key (key_of schema row)) ≡ false
     → row_at schema key (with_row schema row rows) ≡ row_at schema key rows
-replace_other schema key row [] apart = ap (λ (b : Bool). cond b (Some row) None) apart
-replace_other schema key row (other ∷ others) apart =
-    replace_other_at schema key row other others (key_cmp (key_of schema row) (key_of schema other)) refl apart (replace_other schema key row others apart)
-
-replace_same_at : (schema : Schema) (row other : List Value) (others : List (List Value)) (o : Ordering) → key_cmp (key_of schema row) (key_of schema other) ≡ o
-    → row_at schema (key_of schema row) (with_row schema row others) ≡ Some row
-    → row_at schema (key_of schema row) (match_ordering o (row ∷ other ∷ others) (row ∷ others) (other ∷ with_row schema row others)) ≡ Some row
-replace_same_at schema row other others Less e more = first_here schema row (other ∷ others)
-replace_same_at schema row other others Equal e more = first_here schema row others
-replace_same_at schema row other others Greater e more =
-    ap (λ (o : Ordering). cond (is_eq o) (Some other) (row_at schema (key_of schema row) (with_row schema row others))) e ∙ more
+replace_other schema key row rows apart = put_at schema.key_len key row rows ∙ ap (λ (b : Bool). cond b (Some row) (row_at schema key rows)) apart
 
 -- it gives its row at its own key
 replace_same : (schema : Schema) (row : List Value) (rows : List (List Value)) → row_at schema (key_of schema row) (with_row schema row rows) ≡ Some row
-replace_same schema row [] = first_here schema row []
-replace_same schema row (other ∷ others) =
-    replace_same_at schema row other others (key_cmp (key_of schema row) (key_of schema other)) refl (replace_same schema row others)
+replace_same schema row rows = put_there schema.key_len row rows
 
 replace_at : (schema : Schema) (key row : List Value) (rows : List (List Value)) (b : Bool) → is_eq (key_cmp key (key_of schema row)) ≡ b
     → row_at schema key (with_row schema row rows) ≡ cond b (Some row) (row_at schema key rows)
-replace_at schema key row rows true same =
-    let here : key ≡ key_of schema row = keys_exact key (key_of schema row) (is_equal (key_cmp key (key_of schema row)) same) in
-    ap (λ (k : List Value). row_at schema k (with_row schema row rows)) here ∙ replace_same schema row rows
-replace_at schema key row rows false apart = replace_other schema key row rows apart
+replace_at schema key row rows b same = put_at schema.key_len key row rows ∙ ap (λ (b : Bool). cond b (Some row) (row_at schema key rows)) same
 
 -- an INSERT puts its row at its own key where none is there
 insert_here : (schema : Schema) (table : ℕ) (row : List Value) (rows : List (List Value)) (found : Option (List Value)) → row_at schema (key_of schema row) rows ≡ found

@@ -6,8 +6,7 @@ ghost use Rattle.ptc_statement.specs.Numbers.{number_in, number_value, IsHeld, o
 
 use crate::conditions::Cond;
 use crate::expressions::{Expr, Op};
-use row_types::keys::compare_values;
-use row_types::{R, Row, Schema, Value};
+use row_types::{R, Row, Schema, Value, compare_values};
 use std::alloc::Global;
 use std::cmp::Ordering;
 

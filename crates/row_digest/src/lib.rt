@@ -2,11 +2,11 @@
 //! encoding, as pt-table-checksum makes of a chunk (its manual, the option --function).
 #![tactic(auto)]
 
-pub mod checksums;
-pub mod crc_digits;
-pub mod digest_laws;
-pub mod encoding;
-pub mod encoding_laws;
+mod checksums;
+mod crc_digits;
+mod digest_laws;
+mod encoding;
+mod encoding_laws;
 
 pub use checksums::{add, add_with};
 pub use crc_digits::crc_text;

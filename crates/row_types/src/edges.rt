@@ -66,7 +66,7 @@ impl Edge {
     }
 
     /// Whether the key of these values is past this edge.
-    fn is_before(&self, key: &[Value]) -> bool
+    pub fn is_before(&self, key: &[Value]) -> bool
         ensures { result ≡ is_past_edge self.now key.now }
     {
         match self {
@@ -78,7 +78,7 @@ impl Edge {
     }
 
     /// Whether the key of these values is before this edge.
-    fn is_after(&self, key: &[Value]) -> bool
+    pub fn is_after(&self, key: &[Value]) -> bool
         ensures { result ≡ is_before_edge self.now key.now }
     {
         match self {

@@ -3,11 +3,11 @@ ghost use Rattle.row_types.specs.declared.memory.Memory.{Memory};
 
 use std::alloc::{AllocError, AllocFailed, Global};
 
-/// Want of memory.
+/// Out of memory: an allocation failed.
 #[derive(Clone, Copy, Debug, PartialEq, Eq)]
 pub struct Memory;
 
-/// What a call gives that only want of memory can refuse.
+/// What a call gives that is refused only when out of memory.
 pub type R<T> = Result<T, Memory>;
 
 impl Memory {

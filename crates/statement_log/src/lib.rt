@@ -2,10 +2,10 @@
 //! capacity for the next one.
 #![tactic(auto)]
 
-pub mod entries;
-pub mod log_laws;
-pub mod logs;
-pub mod origins;
+mod entries;
+mod log_laws;
+mod logs;
+mod origins;
 
 pub use entries::{Entries, Entry};
 pub use log_laws::{an_appended_entry_is_the_last, positions_run_from_one};

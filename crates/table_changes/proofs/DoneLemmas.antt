@@ -50,16 +50,6 @@ pub record IsUnderWay (all : List RowChange) (before : TableView) (left : List R
   pub key_len : now.key_len ≡ before.key_len
   pub room : before.spare + room_for before.key_len left now.rows ≤ now.spare + room_for before.key_len all before.rows
 
--- a row that is put at an absent key finds room
-pub room_there : (found : Option (List Value)) (spare : ℕ) → cond (is_some found) 0 1 ≤ spare → found ≡ None → 1 ≤ spare
-room_there None spare room none = room
-room_there (Some row) spare room none = cc
-
-pub room_taken : (found : Option (List Value)) (before now : ℕ) → now ≡ (if is_some found then before else before - 1) → cond (is_some found) 0 1 ≤ before
-    → before ≤ now + cond (is_some found) 0 1
-room_taken None before now is room = omega (arith, is)
-room_taken (Some row) before now is room = omega (arith, is)
-
 pub next_keys : (key_len : ℕ) (all left : List RowChange) (change : RowChange) → all ≡ left ++ change ∷ [] → AllByRecursion (ChangeHasKey key_len) all
     → AllByRecursion (ChangeHasKey key_len) left × ChangeHasKey key_len change
 next_keys key_len all left change is keys = keys_last key_len left change (subst (AllByRecursion (ChangeHasKey key_len)) is keys)
@@ -73,11 +63,6 @@ next_room all before old left change now way is enough =
     let same : room_of now.key_len change now.rows ≡ room_of before.key_len change now.rows =
     ap (λ (n : ℕ). room_of n change now.rows) way.key_len in
     omega (arith, last, same, way.room, enough)
-
-pub next_key : (all : List RowChange) (before : TableView) (old left : List RowChange) (change : RowChange) (now : TableView) → IsUnderWay all before old now
-    → old ≡ left ++ change ∷ [] → ChangeHasKey now.key_len change
-next_key all before old left change now way is =
-    subst (λ (n : ℕ). ChangeHasKey n change) (sym way.key_len) (next_keys before.key_len old left change is way.keys).1
 
 -- one change more is done
 pub next_way : (all : List RowChange) (before : TableView) (old left : List RowChange) (change : RowChange) (now next : TableView) → IsUnderWay all before old now
@@ -104,15 +89,8 @@ next_way all before old left change now next way is rows key_len spare =
       room = omega (arith, last, same, left_is, spare, way.room);
     }
 
-pub first_way : (all : List RowChange) (before : TableView) → AllByRecursion (ChangeHasKey before.key_len) all → IsUnderWay all before all before
-first_way all before keys = record { keys = keys; rows = refl; key_len = refl; room = omega arith }
-
 -- none is left
 pub last_way : (all : List RowChange) (before : TableView) (old : List RowChange) (now : TableView) → IsUnderWay all before old now → old ≡ []
     → now.rows ≡ done before.key_len all before.rows
 last_way all before old now way is =
     sym (ap (λ (changes : List RowChange). done before.key_len changes now.rows) is) ∙ way.rows
-
-pub last_room : (all : List RowChange) (before : TableView) (old : List RowChange) (now : TableView) (room : ℕ) → IsUnderWay all before old now
-    → room ≡ room_for before.key_len all before.rows → before.spare ≤ now.spare + room
-last_room all before old now room way is = omega (arith, way.room, is)

@@ -11,8 +11,7 @@ ghost use Rattle.table_changes.specs.Plans.{ChangeFits, IsDue, IsSound};
 use crate::row_changes::{RowChange, RowChanges};
 use ordered_table::Table;
 use ptc_statement::{Assignments, Statement, reach, takes, updated};
-use row_types::keys::compare_values;
-use row_types::{Key, R, Row, Schema, Span};
+use row_types::{Key, R, Row, Schema, Span, compare_values};
 use std::alloc::Global;
 
 /// What a statement does to a table, worked out before anything is changed: the changes of its rows,

@@ -5,8 +5,7 @@ ghost use Rattle.lock_table.specs.FoundKeys.{lesser_of, greater_of};
 
 use lock_table::{LockTable, Owner};
 use ordered_table::Table;
-use row_types::keys::compare_values;
-use row_types::{Edge, Key, R, Span, Value};
+use row_types::{Edge, Key, R, Span, Value, compare_values};
 use std::alloc::Global;
 use std::marker::Model;
 
