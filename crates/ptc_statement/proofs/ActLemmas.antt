@@ -1,9 +1,7 @@
 -- After a statement that fits, a table has at each key what the statement makes of the row there.
 use Rattle.std.proofs.Common.{◌≡◌, ◌∙◌, ℕ, Bool, true, false, cond, Option, Some, None, List, [], ◌∷◌, refl, ap, sym}
 use Rattle.std.specs.Prelude.{is_some}
-use Rattle.std.specs.Ordering.{match_ordering, is_eq}
-use Rattle.std.specs.declared.cmp.Ordering.{Ordering}
-use Rattle.std.specs.declared.cmp.Ordering.TheVariants.{Less, Equal, Greater}
+use Rattle.std.specs.Ordering.{is_eq}
 use Rattle.row_types.specs.declared.values.Value.{Value}
 use Rattle.row_types.specs.declared.table_schema.Schema.{Schema}
 use Rattle.row_types.specs.Order.{key_cmp, has}
@@ -15,7 +13,7 @@ use Rattle.ptc_statement.specs.declared.statements.Statement.TheVariants.{Insert
 use Rattle.ptc_statement.specs.Reach.{reach_of}
 use Rattle.ptc_statement.specs.Effect.{effect, effect_within, changed, with_front, with_new_row, rows_after, row_at}
 use Rattle.ptc_statement.specs.Fits.{StatementFits}
-use Rattle.ptc_statement.proofs.KeyLemmas.{is_equal, just_itself, first_here, none_behind}
+use Rattle.ptc_statement.proofs.KeyLemmas.{is_equal, just_itself, none_behind}
 use Rattle.ptc_statement.proofs.KeepLemmas.{LeftKeeps, effect_keeps}
 use Rattle.ptc_statement.proofs.TableLemmas.{changed_above}
 

@@ -1,9 +1,11 @@
-use crate::builders::{column_is, insert, update};
-use ptc_statement::{Statement, act};
-use row_types::{R, Row, Value};
+use ptc_statement::{Cond, Statement, act};
+use row_types::{LockMode, R, Row, Span, Value};
+use statement_builders::{
+    check, clear_checks, column_is, delete, insert, lock_read, replace, set_five, update,
+};
 use std::alloc::Global;
 use std::test::Fail;
-use test_builders::{key, pair_schema, row};
+use test_builders::{key, null_row, pair_schema, row};
 
 /// The second number beside a first one in the rows (2, 20), (4, 40), (6, 60).
 fn of_three(id: i64) -> Option<i64> {
@@ -93,18 +95,28 @@ fn insert_leaves(alloc: Global, id: i64, value: i64) -> R<bool> {
     changes_one(alloc, &statement, id, Some(value))
 }
 
+fn replace_leaves(alloc: Global, id: i64, value: i64) -> R<bool> {
+    let statement = replace(alloc, id, 5)?;
+    changes_one(alloc, &statement, id, Some(value))
+}
+
+fn delete_takes(alloc: Global, column: u32, value: i64, id: i64) -> R<bool> {
+    let statement = delete(column_is(column, Value::Int(value)));
+    changes_one(alloc, &statement, id, None)
+}
+
 fn update_sets(alloc: Global, column: u32, value: i64, id: i64) -> R<bool> {
-    let statement = update(alloc, column_is(column, Value::Int(value)))?;
+    let statement = update(set_five(alloc)?, column_is(column, Value::Int(value)));
     changes_one(alloc, &statement, id, Some(5))
 }
 
 fn update_sets_all(alloc: Global) -> R<bool> {
-    let statement = update(alloc, None)?;
+    let statement = update(set_five(alloc)?, None);
     changes_all(alloc, &statement, Some(5))
 }
 
 fn update_of_absent_key(alloc: Global) -> R<bool> {
-    let statement = update(alloc, column_is(0, Value::Int(3)))?;
+    let statement = update(set_five(alloc)?, column_is(0, Value::Int(3)));
     changes_none(alloc, &statement)
 }
 
@@ -119,6 +131,28 @@ fn inserts_put_rows_in(rt: HostRuntime) -> Result<(), Fail> {
     Ok(())
 }
 
+/// A REPLACE puts its row at its key, whether that is there or not.
+#[test]
+fn replaces_put_rows_in(rt: HostRuntime) -> Result<(), Fail> {
+    let alloc = rt.alloc();
+    assert!(rt; replace_leaves(alloc, 1, 5)?);
+    assert!(rt; replace_leaves(alloc, 4, 5)?);
+    assert!(rt; replace_leaves(alloc, 6, 5)?);
+    assert!(rt; replace_leaves(alloc, 7, 5)?);
+    Ok(())
+}
+
+/// A DELETE takes the rows of its condition away, by the key or by another column, or all.
+#[test]
+fn deletes_take_rows_away(rt: HostRuntime) -> Result<(), Fail> {
+    let alloc = rt.alloc();
+    assert!(rt; delete_takes(alloc, 0, 2, 2)?);
+    assert!(rt; delete_takes(alloc, 1, 40, 4)?);
+    assert!(rt; delete_takes(alloc, 0, 3, 3)?);
+    assert!(rt; changes_all(alloc, &delete(None), None)?);
+    Ok(())
+}
+
 /// An UPDATE changes the rows of its condition, or all.
 #[test]
 fn updates_change_rows(rt: HostRuntime) -> Result<(), Fail> {
@@ -128,4 +162,72 @@ fn updates_change_rows(rt: HostRuntime) -> Result<(), Fail> {
     assert!(rt; update_of_absent_key(alloc)?);
     assert!(rt; update_sets_all(alloc)?);
     Ok(())
+}
+
+fn read_of_all(mode: LockMode) -> Statement {
+    lock_read(mode, Span::whole(), None)
+}
+
+fn check_of_all() -> Statement {
+    check(Span::whole())
+}
+
+/// Locking reads and the checksum tool's statements leave every row.
+#[test]
+fn other_statements_leave_rows(rt: HostRuntime) -> Result<(), Fail> {
+    let alloc = rt.alloc();
+    assert!(rt; changes_none(alloc, &read_of_all(LockMode::Shared))?);
+    assert!(rt; changes_none(alloc, &check_of_all())?);
+    assert!(rt; changes_none(alloc, &clear_checks())?);
+    Ok(())
+}
+
+/// Whether a statement takes the row of a key and NULL away.
+fn null_row_goes(alloc: Global, statement: &Statement) -> R<bool> {
+    let old = null_row(alloc, 1)?;
+    let left = left_at(alloc, statement, 1, Some(&old))?;
+    Ok(left.is_none())
+}
+
+/// Whether a DELETE with the condition does.
+fn takes_null_row(alloc: Global, cond: Option<Cond>) -> R<bool> {
+    let statement = delete(cond);
+    null_row_goes(alloc, &statement)
+}
+
+/// A comparison with NULL takes no row, and without a condition each is taken.
+#[test]
+fn null_is_unknown(rt: HostRuntime) -> Result<(), Fail> {
+    let alloc = rt.alloc();
+    assert!(rt; !takes_null_row(alloc, column_is(1, Value::Null))?);
+    assert!(rt; !takes_null_row(alloc, column_is(1, Value::Int(5)))?);
+    assert!(rt; takes_null_row(alloc, None)?);
+    Ok(())
+}
+
+fn has_mode(statement: Statement, mode: LockMode) -> bool {
+    statement.mode() == mode
+}
+
+/// The mode is that of the locking read, shared for CHECKSUM, and else exclusive.
+#[test]
+fn statements_have_modes(rt: HostRuntime) {
+    assert!(rt; has_mode(read_of_all(LockMode::Shared), LockMode::Shared));
+    assert!(rt; has_mode(read_of_all(LockMode::Exclusive), LockMode::Exclusive));
+    assert!(rt; has_mode(check_of_all(), LockMode::Shared));
+    assert!(rt; has_mode(delete(None), LockMode::Exclusive));
+    assert!(rt; has_mode(clear_checks(), LockMode::Exclusive));
+}
+
+fn is_logged(statement: Statement) -> bool {
+    statement.is_logged()
+}
+
+/// All statements but locking reads are logged.
+#[test]
+fn reads_are_not_logged(rt: HostRuntime) {
+    assert!(rt; !is_logged(read_of_all(LockMode::Exclusive)));
+    assert!(rt; is_logged(check_of_all()));
+    assert!(rt; is_logged(delete(None)));
+    assert!(rt; is_logged(clear_checks()));
 }

@@ -1,14 +1,6 @@
-//! Tests of statements, their expressions and conditions, and scripts.
+//! Tests of what a statement leaves at a key, and of the keys that it walks.
 #![tactic(auto)]
 
-#[cfg(test)]
-mod arithmetic_tests;
-#[cfg(test)]
-mod builders;
-#[cfg(test)]
-mod condition_tests;
-#[cfg(test)]
-mod copy_tests;
 #[cfg(test)]
 mod effect_tests;
 #[cfg(test)]

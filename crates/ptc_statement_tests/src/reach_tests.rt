@@ -1,9 +1,12 @@
-use crate::builders::{and, compare, delete, four_columns, key_compare, number};
 use ptc_statement::{Cond, Expr, Op, Statement, reach};
-use row_types::{ColumnKind, Columns, Edge, R, Schema, Span};
+use row_types::{Edge, LockMode, R, Span, Value};
+use statement_builders::{
+    OPS, add, and, check, clear_checks, column_is, compare, delete, four_columns, insert,
+    key_compare, lock_read, not, null_test, number, or, set_five, two_keys, update,
+};
 use std::alloc::Global;
 use std::test::Fail;
-use test_builders::{column, key, key_of_two, schema};
+use test_builders::{key, key_of_two, keys_between};
 
 /// Whether a statement walks these keys of a table whose key is one number.
 fn walks(alloc: Global, statement: &Statement, wanted: &Span) -> R<bool> {
@@ -11,10 +14,126 @@ fn walks(alloc: Global, statement: &Statement, wanted: &Span) -> R<bool> {
     Ok(reach(alloc, statement, &schema)?.same(wanted))
 }
 
+/// Whether a statement walks this one key.
+fn walks_five(alloc: Global, statement: Statement) -> R<bool> {
+    let five = keys_between(alloc, 5, 5)?;
+    walks(alloc, &statement, &five)
+}
+
+/// Whether a statement walks all keys.
+fn walks_all(alloc: Global, statement: Statement) -> R<bool> {
+    walks(alloc, &statement, &Span::whole())
+}
+
+/// Whether a statement walks no key.
+fn walks_none(alloc: Global, statement: Statement) -> R<bool> {
+    let nothing = Span {
+        lo: Edge::Low,
+        hi: Edge::Low,
+    };
+    walks(alloc, &statement, &nothing)
+}
+
 /// Whether a DELETE with the condition walks these keys.
 fn leaves(alloc: Global, cond: Cond, wanted: &Span) -> R<bool> {
     let statement = delete(Some(cond));
     walks(alloc, &statement, wanted)
+}
+
+/// Whether a DELETE with the condition walks all keys.
+fn leaves_all(alloc: Global, cond: Cond) -> R<bool> {
+    leaves(alloc, cond, &Span::whole())
+}
+
+/// A statement with a row walks its key, one with a condition those that it leaves.
+#[test]
+fn statements_walk_keys(rt: HostRuntime) -> Result<(), Fail> {
+    let alloc = rt.alloc();
+    assert!(rt; walks_five(alloc, insert(alloc, 5, 1)?)?);
+    assert!(rt; walks_five(alloc, update(set_five(alloc)?, column_is(0, Value::Int(5))))?);
+    assert!(rt; walks_all(alloc, delete(column_is(1, Value::Int(5))))?);
+    assert!(rt; walks_all(alloc, delete(None))?);
+    Ok(())
+}
+
+fn before_five(alloc: Global) -> R<Span> {
+    Ok(Span {
+        lo: Edge::Low,
+        hi: Edge::Before(key(alloc, 5)?),
+    })
+}
+
+fn between_two_and_five(alloc: Global) -> R<Span> {
+    Ok(Span {
+        lo: Edge::After(key(alloc, 2)?),
+        hi: Edge::Before(key(alloc, 5)?),
+    })
+}
+
+fn lock_read_meets_both(alloc: Global) -> R<bool> {
+    let read = lock_read(
+        LockMode::Shared,
+        before_five(alloc)?,
+        Some(key_compare(Op::Gt, 2)),
+    );
+    let wanted = between_two_and_five(alloc)?;
+    walks(alloc, &read, &wanted)
+}
+
+fn check_walks_its_span(alloc: Global) -> R<bool> {
+    let check = check(before_five(alloc)?);
+    let wanted = before_five(alloc)?;
+    walks(alloc, &check, &wanted)
+}
+
+/// A locking read walks the keys of both span and condition, CHECKSUM those of its span, and the
+/// tool's other statements none.
+#[test]
+fn spans_are_walked(rt: HostRuntime) -> Result<(), Fail> {
+    let alloc = rt.alloc();
+    assert!(rt; lock_read_meets_both(alloc)?);
+    assert!(rt; check_walks_its_span(alloc)?);
+    assert!(rt; walks_none(alloc, clear_checks())?);
+    Ok(())
+}
+
+/// The span that a sign gives on 5.
+fn of_five(alloc: Global, op: Op) -> R<Span> {
+    let (before, after) = (Edge::Before(key(alloc, 5)?), Edge::After(key(alloc, 5)?));
+    let (lo, hi) = match op {
+        Op::Eq => (before, after),
+        Op::Ne => (Edge::Low, Edge::High),
+        Op::Lt => (Edge::Low, before),
+        Op::Le => (Edge::Low, after),
+        Op::Gt => (after, Edge::High),
+        Op::Ge => (before, Edge::High),
+    };
+    Ok(Span { lo, hi })
+}
+
+const EXCHANGED: [Op; 6] = [Op::Eq, Op::Ne, Op::Gt, Op::Ge, Op::Lt, Op::Le];
+
+/// Whether the first column compared with 5 leaves the keys that the sign gives.
+fn left_narrows(alloc: Global, op: Op) -> R<bool> {
+    let wanted = of_five(alloc, op)?;
+    leaves(alloc, key_compare(op, 5), &wanted)
+}
+
+/// Whether 5 compared with the first column by the exchanged sign leaves the same ones.
+fn right_narrows(alloc: Global, op: Op, exchanged: Op) -> R<bool> {
+    let wanted = of_five(alloc, op)?;
+    leaves(alloc, compare(exchanged, number(5), Expr::Cell(0)), &wanted)
+}
+
+/// Each sign, with the column on the left and on the right.
+#[test]
+fn comparisons_narrow_either_way(rt: HostRuntime) -> Result<(), Fail> {
+    let alloc = rt.alloc();
+    for (op, exchanged) in OPS.iter().zip(EXCHANGED.iter()) {
+        assert!(rt; left_narrows(alloc, *op)?);
+        assert!(rt; right_narrows(alloc, *op, *exchanged)?);
+    }
+    Ok(())
 }
 
 /// `9 >= id AND (id > 2 AND b = 0)`.
@@ -46,12 +165,65 @@ fn joined_terms_narrow(rt: HostRuntime) -> Result<(), Fail> {
     Ok(())
 }
 
-/// `t (a BIGINT, b VARCHAR(4), KEY (a, b))`.
-fn two_keys(alloc: Global) -> R<Schema> {
-    let mut columns = Columns::new(alloc);
-    columns.push(column(alloc, b"a", ColumnKind::BigInt, false)?)?;
-    columns.push(column(alloc, b"b", ColumnKind::Text { max: 4 }, false)?)?;
-    schema(alloc, b"t", columns, 2)
+/// A DELETE where the key is below 2 and above 9.
+fn crossed(alloc: Global) -> R<Statement> {
+    let cond = and(alloc, key_compare(Op::Lt, 2), key_compare(Op::Gt, 9))?;
+    Ok(delete(Some(cond)))
+}
+
+/// Whether a statement walks a key.
+fn walks_key(alloc: Global, statement: &Statement, id: i64) -> R<bool> {
+    let schema = four_columns(alloc)?;
+    let reached = reach(alloc, statement, &schema)?;
+    Ok(reached.has(&key(alloc, id)?))
+}
+
+fn crossed_walks(alloc: Global, id: i64) -> R<bool> {
+    let statement = crossed(alloc)?;
+    walks_key(alloc, &statement, id)
+}
+
+/// Terms that exclude one another leave no key.
+#[test]
+fn crossed_terms_leave_nothing(rt: HostRuntime) -> Result<(), Fail> {
+    let alloc = rt.alloc();
+    for id in [1, 2, 5, 9, 10] {
+        assert!(rt; !crossed_walks(alloc, id)?, "{id}");
+    }
+    Ok(())
+}
+
+fn either(alloc: Global) -> R<Cond> {
+    or(alloc, key_compare(Op::Eq, 1), key_compare(Op::Eq, 2))
+}
+
+/// The key compared with NULL.
+fn key_is_unknown() -> Cond {
+    compare(Op::Eq, Expr::Cell(0), Expr::Lit(Value::Null))
+}
+
+fn key_is_sum(alloc: Global) -> R<Cond> {
+    let sum = add(alloc, number(2), number(3))?;
+    Ok(compare(Op::Eq, Expr::Cell(0), sum))
+}
+
+/// OR and NOT don't narrow.
+#[test]
+fn other_terms_narrow_nothing(rt: HostRuntime) -> Result<(), Fail> {
+    let alloc = rt.alloc();
+    assert!(rt; leaves_all(alloc, either(alloc)?)?);
+    assert!(rt; leaves_all(alloc, not(alloc, key_compare(Op::Ne, 1))?)?);
+    Ok(())
+}
+
+/// NULL and what is no literal don't narrow.
+#[test]
+fn other_sides_narrow_nothing(rt: HostRuntime) -> Result<(), Fail> {
+    let alloc = rt.alloc();
+    assert!(rt; leaves_all(alloc, key_is_sum(alloc)?)?);
+    assert!(rt; leaves_all(alloc, key_is_unknown())?);
+    assert!(rt; leaves_all(alloc, null_test(0, false))?);
+    Ok(())
 }
 
 /// `(a, b) > (1, 'a') AND (a, b) < (2, '')`.

@@ -1,6 +1,6 @@
-use crate::builders::{OPS, and, compare, four_columns, number, or};
 use ptc_statement::{Cond, Expr, Op, takes};
 use row_types::{R, Row, Value};
+use statement_builders::{OPS, add, and, compare, four_columns, neg, not, null_test, number, or};
 use std::alloc::Global;
 use std::test::Fail;
 use test_builders::{row, text_value};
@@ -33,6 +33,19 @@ fn comparisons_with_null_are_unknown(rt: HostRuntime) -> Result<(), Fail> {
         assert!(rt; comparison(alloc, op, Expr::Cell(2), number(1))?.is_none());
         assert!(rt; comparison(alloc, op, number(1), Expr::Lit(Value::Null))?.is_none());
         assert!(rt; comparison(alloc, op, Expr::Cell(2), Expr::Cell(2))?.is_none());
+    }
+    Ok(())
+}
+
+/// Arithmetic with NULL is NULL.
+#[test]
+fn arithmetic_with_null_is_unknown(rt: HostRuntime) -> Result<(), Fail> {
+    let alloc = rt.alloc();
+    for op in OPS {
+        let sum = add(alloc, Expr::Cell(1), Expr::Cell(2))?;
+        assert!(rt; comparison(alloc, op, sum, number(1))?.is_none());
+        let negated = neg(alloc, Expr::Cell(2))?;
+        assert!(rt; comparison(alloc, op, negated, number(1))?.is_none());
     }
     Ok(())
 }
@@ -82,12 +95,26 @@ fn constant(truth: Option<bool>) -> Cond {
 
 const TRUTHS: [Option<bool>; 3] = [Some(true), Some(false), None];
 
+fn not_gives(alloc: Global, operand: Option<bool>) -> R<Option<bool>> {
+    truth(alloc, &not(alloc, constant(operand))?)
+}
+
 fn and_gives(alloc: Global, left: Option<bool>, right: Option<bool>) -> R<Option<bool>> {
     truth(alloc, &and(alloc, constant(left), constant(right))?)
 }
 
 fn or_gives(alloc: Global, left: Option<bool>, right: Option<bool>) -> R<Option<bool>> {
     truth(alloc, &or(alloc, constant(left), constant(right))?)
+}
+
+/// NOT of true, false and unknown.
+#[test]
+fn opposites_have_three_values(rt: HostRuntime) -> Result<(), Fail> {
+    let alloc = rt.alloc();
+    assert!(rt; not_gives(alloc, Some(true))? == Some(false));
+    assert!(rt; not_gives(alloc, Some(false))? == Some(true));
+    assert!(rt; not_gives(alloc, None)?.is_none());
+    Ok(())
 }
 
 /// AND and OR of true, false and unknown.
@@ -115,6 +142,27 @@ fn conditions_have_three_values(rt: HostRuntime) -> Result<(), Fail> {
                 "{i} {j}"
             );
         }
+    }
+    Ok(())
+}
+
+fn is_null(alloc: Global, column: u32, negated: bool) -> R<Option<bool>> {
+    truth(alloc, &null_test(column, negated))
+}
+
+/// IS NULL and IS NOT NULL are never unknown.
+#[test]
+fn nulls_are_told(rt: HostRuntime) -> Result<(), Fail> {
+    let alloc = rt.alloc();
+    for (column, is_unknown) in [(1u32, false), (2, true), (3, false)] {
+        assert!(rt;
+            is_null(alloc, column, false)? == Some(is_unknown),
+            "{column}"
+        );
+        assert!(rt;
+            is_null(alloc, column, true)? == Some(!is_unknown),
+            "{column}"
+        );
     }
     Ok(())
 }
