@@ -173,13 +173,18 @@ fn is_taken(alloc: Global, cond: &Option<Cond>) -> R<bool> {
     Ok(takes(&schema, cond, &row))
 }
 
+fn constant_takes(alloc: Global, truth: Option<bool>) -> R<bool> {
+    let cond = Some(constant(truth));
+    is_taken(alloc, &cond)
+}
+
 /// A row is taken where the condition is true, or where there is none.
 #[test]
 fn only_true_takes(rt: HostRuntime) -> Result<(), Fail> {
     let alloc = rt.alloc();
     assert!(rt; is_taken(alloc, &None)?);
-    assert!(rt; is_taken(alloc, &Some(constant(Some(true))))?);
-    assert!(rt; !is_taken(alloc, &Some(constant(Some(false))))?);
-    assert!(rt; !is_taken(alloc, &Some(constant(None)))?);
+    assert!(rt; constant_takes(alloc, Some(true))?);
+    assert!(rt; !constant_takes(alloc, Some(false))?);
+    assert!(rt; !constant_takes(alloc, None)?);
     Ok(())
 }

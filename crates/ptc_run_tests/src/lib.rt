@@ -1,11 +1,7 @@
-//! Tests of ptc_run, over its public calls.
+//! Tests of the top call and of the words.
 #![tactic(auto)]
 
 #[cfg(test)]
 mod copy_tests;
-#[cfg(test)]
-mod file_texts;
-#[cfg(test)]
-mod read_tests;
 #[cfg(test)]
 mod top_tests;

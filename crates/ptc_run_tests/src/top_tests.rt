@@ -1,15 +1,15 @@
 //! The top call: each status, the lines of refusal, and reports.
-use crate::file_texts::HEAD;
 use ptc_io::{MemorySink, MemorySource};
 use ptc_run::ptc;
-use std::alloc::{AllocError, Global};
+use row_types::R;
+use std::alloc::Global;
 use std::test::Fail;
 
 /// The report of the file without rows.
 const EMPTY: &str =
     "PTC REPORT 1\nTABLE t (id BIGINT KEY, v BIGINT)\nLOG 1 c\n  CLEARCHECKS t\nLOG 2 c\n  CHECKSUM t CHUNK 1 FROM LOW TO HIGH USING MD5\nLOG 3 c\n  SETMASTER t CHUNK 1 CNT 0 CRC '00000000000000000000000000000000'\nHISTORY r1 applied 1\nHISTORY r1 applied 2\nHISTORY r1 applied 3\nVERDICT r1 t 1 FROM LOW TO HIGH AT 2 COUNT 0 0 SAME\nEQUAL r1 t\nSTATUS 0\n";
 
-fn words(alloc: Global, words: &[&str]) -> Result<Vec<String>, AllocError> {
+fn words(alloc: Global, words: &[&str]) -> R<Vec<String>> {
     let mut all = Vec::new(alloc);
     for word in words {
         all.push(String::from_str(alloc, word)?)?;
@@ -17,16 +17,17 @@ fn words(alloc: Global, words: &[&str]) -> Result<Vec<String>, AllocError> {
     Ok(all)
 }
 
-/// The file of these ROW lines.
-fn file(alloc: Global, rows: &str) -> Result<Vec<u8>, AllocError> {
-    let mut bytes = HEAD.as_bytes().to_vec(alloc)?;
-    bytes.extend_from_slice(rows.as_bytes())?;
-    bytes.extend_from_slice(b"END\n")?;
-    Ok(bytes)
+/// The lines before the first row.
+const HEAD: &str = "PTC WORKLOAD 1\nREPLICAS 1\nTABLE t (id BIGINT KEY, v BIGINT)\n";
+
+/// The file of these lines between its head and its end.
+fn file(alloc: Global, body: &str) -> R<Vec<u8>> {
+    let text = format!(in alloc; "{HEAD}{body}END\n")?;
+    Ok(text.as_bytes().to_vec(alloc)?)
 }
 
 /// The status and the output for these words and this input.
-fn outcome(alloc: Global, list: &[&str], bytes: Vec<u8>) -> Result<(u8, Vec<u8>), AllocError> {
+fn outcome(alloc: Global, list: &[&str], bytes: Vec<u8>) -> R<(u8, Vec<u8>)> {
     let words = words(alloc, list)?;
     let mut input = MemorySource::new(bytes, Vec::new(alloc));
     let mut output = MemorySink::new(alloc, 1000, Vec::new(alloc));
@@ -43,6 +44,23 @@ fn has(text: &[u8], lines: &str) -> bool {
     text.windows(lines.len()).any(|window| window == lines)
 }
 
+/// Whether a file is answered by this status and a text with these lines.
+fn gives(alloc: Global, body: &str, status: u8, lines: &str) -> R<bool> {
+    let (code, text) = outcome(alloc, &["run"], file(alloc, body)?)?;
+    Ok(code == status && has(text.as_slice(), lines))
+}
+
+/// Whether words and an input are answered by this status and just this text.
+fn prints(alloc: Global, list: &[&str], bytes: Vec<u8>, status: u8, wanted: &str) -> R<bool> {
+    let (code, text) = outcome(alloc, list, bytes)?;
+    Ok(code == status && text.as_slice() == wanted.as_bytes())
+}
+
+/// Whether a file is answered by this status and just this text.
+fn file_prints(alloc: Global, body: &str, status: u8, wanted: &str) -> R<bool> {
+    Ok(prints(alloc, &["run"], file(alloc, body)?, status, wanted)?)
+}
+
 #[test]
 fn words_are_refused(rt: HostRuntime) -> Result<(), Fail> {
     for (list, line) in [
@@ -54,9 +72,8 @@ fn words_are_refused(rt: HostRuntime) -> Result<(), Fail> {
             "ptc: word 2 refused: --sync\n",
         ),
     ] {
-        let (code, text) = outcome(rt.alloc(), list, file(rt.alloc(), "")?)?;
-        assert_eq!(rt; code, 1);
-        assert_eq!(rt; text.as_slice(), line.as_bytes());
+        let bytes = file(rt.alloc(), "")?;
+        assert!(rt; prints(rt.alloc(), list, bytes, 1, line)?, "{line}");
     }
     Ok(())
 }
@@ -65,44 +82,28 @@ fn words_are_refused(rt: HostRuntime) -> Result<(), Fail> {
 fn files_are_refused(rt: HostRuntime) -> Result<(), Fail> {
     let other =
         b"PTC WORKLOAD 1\nREPLICAS 1\nTABLE u (id BIGINT KEY, v BIGINT)\nROW source t (1, 10)\nROW r1 t (1, 11)\nEND\n";
-    let (code, text) = outcome(rt.alloc(), &["run"], other.to_vec(rt.alloc())?)?;
-    assert_eq!(rt; code, 1);
-    assert_eq!(rt;
-        text.as_slice(),
-        b"ptc: workload refused: line 3: early\n".as_slice()
-    );
-    let twice = file(rt.alloc(), "ROW * t (1, 10)\nROW r1 t (1, 11)\n")?;
-    let (code, text) = outcome(rt.alloc(), &["run"], twice)?;
-    assert_eq!(rt; code, 1);
-    assert_eq!(rt;
-        text.as_slice(),
-        b"ptc: workload refused: line 5: early\n".as_slice()
-    );
+    let bytes = other.to_vec(rt.alloc())?;
+    let line = "ptc: workload refused: line 3: early\n";
+    assert!(rt; prints(rt.alloc(), &["run"], bytes, 1, line)?);
+    let twice = "ROW * t (1, 10)\nROW r1 t (1, 11)\n";
+    let line = "ptc: workload refused: line 5: early\n";
+    assert!(rt; file_prints(rt.alloc(), twice, 1, line)?);
     Ok(())
 }
 
 /// One byte more than a file may have is refused, whatever the bytes are.
 #[test]
 fn too_many_bytes_are_refused(rt: HostRuntime) -> Result<(), Fail> {
-    let mut bytes = Vec::with_capacity(rt.alloc(), 16_777_217)?;
-    for _ in 0..16_777_217 {
-        bytes.push(b'x')?;
-    }
-    let (code, text) = outcome(rt.alloc(), &["run"], bytes)?;
-    assert_eq!(rt; code, 1);
-    assert_eq!(rt;
-        text.as_slice(),
-        b"ptc: workload refused: limit bytes: 16777217\n".as_slice()
-    );
+    let bytes = vec![in rt.alloc(); b'x'; 16_777_217]?;
+    let line = "ptc: workload refused: limit bytes: 16777217\n";
+    assert!(rt; prints(rt.alloc(), &["run"], bytes, 1, line)?);
     Ok(())
 }
 
 #[test]
 fn empty_table_has_its_report(rt: HostRuntime) -> Result<(), Fail> {
-    let (code, text) = outcome(rt.alloc(), &["run"], file(rt.alloc(), "")?)?;
-    assert_eq!(rt; code, 0);
-    assert_eq!(rt; text.len(), 337);
-    assert_eq!(rt; text.as_slice(), EMPTY.as_bytes());
+    assert!(rt; EMPTY.len() == 337);
+    assert!(rt; file_prints(rt.alloc(), "", 0, EMPTY)?);
     Ok(())
 }
 
@@ -161,21 +162,15 @@ fn rows_are_compared(rt: HostRuntime) -> Result<(), Fail> {
             "VERDICT r1 t 1 FROM LOW TO HIGH AT 2 COUNT 1 3 DIFFER\nFINAL source t (2, 0)\nFINAL r1 t (-1, 0)\nFINAL r1 t (2, 0)\nFINAL r1 t (3, 0)\nUNEQUAL r1 t\nSTATUS 16\n",
         ),
     ] {
-        let (got, text) = outcome(rt.alloc(), &["run"], file(rt.alloc(), rows)?)?;
-        assert_eq!(rt; got, code, "{rows}");
-        assert!(rt; has(text.as_slice(), lines), "{rows}");
+        assert!(rt; gives(rt.alloc(), rows, code, lines)?, "{rows}");
     }
     Ok(())
 }
 
-/// A file with a script under `SESSION s1`.
-fn scripted(alloc: Global, rows: &str, script: &str) -> Result<Vec<u8>, AllocError> {
-    let mut bytes = HEAD.as_bytes().to_vec(alloc)?;
-    bytes.extend_from_slice(rows.as_bytes())?;
-    bytes.extend_from_slice(b"SESSION s1\n")?;
-    bytes.extend_from_slice(script.as_bytes())?;
-    bytes.extend_from_slice(b"END\n")?;
-    Ok(bytes)
+/// The same of a file with rows and a script under `SESSION s1`.
+fn script_gives(alloc: Global, rows: &str, script: &str, status: u8, lines: &str) -> R<bool> {
+    let body = format!(in alloc; "{rows}SESSION s1\n{script}")?;
+    gives(alloc, body.as_str(), status, lines)
 }
 
 /// A duplicate on the source, an INSERT that only the replica has already, an UPDATE of an absent
@@ -214,9 +209,10 @@ fn sessions_write(rt: HostRuntime) -> Result<(), Fail> {
             "COUNT 1 1 SAME\nFINAL source t (1, 12)\nFINAL r1 t (1, 12)\nEQUAL r1 t\nSTATUS 0\n",
         ),
     ] {
-        let (got, text) = outcome(rt.alloc(), &["run"], scripted(rt.alloc(), rows, script)?)?;
-        assert_eq!(rt; got, code, "{script}");
-        assert!(rt; has(text.as_slice(), lines), "{script}");
+        assert!(rt;
+            script_gives(rt.alloc(), rows, script, code, lines)?,
+            "{script}"
+        );
     }
     Ok(())
 }
@@ -230,35 +226,29 @@ fn thousand_statements(rt: HostRuntime) -> Result<(), Fail> {
         script.push_str(i.to_string(rt.alloc())?.as_str())?;
         script.push_str(", 1)\n")?;
     }
-    let (code, text) = outcome(
-        rt.alloc(),
-        &["run"],
-        scripted(rt.alloc(), "", script.as_str())?,
-    )?;
-    assert_eq!(rt; code, 0);
-    assert!(rt;
-        has(
-            text.as_slice(),
-            "LOG 1003 s1\n  INSERT INTO t VALUES (999, 1)\nHISTORY r1 applied 1\n"
-        )
-    );
+    let lines = "LOG 1003 s1\n  INSERT INTO t VALUES (999, 1)\nHISTORY r1 applied 1\n";
+    assert!(rt; script_gives(rt.alloc(), "", script.as_str(), 0, lines)?);
     Ok(())
 }
 
-/// The source and the replica differ, and one UPDATE makes their rows equal: a file with these
-/// SCHEDULE lines.
-fn scheduled(alloc: Global, schedule: &str) -> Result<Vec<u8>, AllocError> {
-    let mut bytes = HEAD.as_bytes().to_vec(alloc)?;
-    bytes.extend_from_slice(b"ROW source t (1, 10)\nROW r1 t (1, 11)\nSESSION s1\n")?;
-    bytes.extend_from_slice(b"UPDATE t SET v = 12 WHERE id = 1\n")?;
-    bytes.extend_from_slice(schedule.as_bytes())?;
-    bytes.extend_from_slice(b"END\n")?;
-    Ok(bytes)
+/// What a file is before its SCHEDULE lines: the source and the replica differ, and one UPDATE makes
+/// their rows equal.
+const DRIFTED: &str =
+    "ROW source t (1, 10)\nROW r1 t (1, 11)\nSESSION s1\nUPDATE t SET v = 12 WHERE id = 1\n";
+
+/// Whether such a file with these SCHEDULE lines is answered by this status and a text with these lines.
+fn schedule_gives(alloc: Global, schedule: &str, status: u8, lines: &str) -> R<bool> {
+    let body = format!(in alloc; "{DRIFTED}{schedule}")?;
+    gives(alloc, body.as_str(), status, lines)
 }
 
 /// The report where the UPDATE stands between CHECKSUM and SETMASTER.
 const BETWEEN: &str =
     "PTC REPORT 1\nTABLE t (id BIGINT KEY, v BIGINT)\nSTART source t (1, 10)\nSTART r1 t (1, 11)\nLOG 1 c\n  CLEARCHECKS t\nLOG 2 c\n  CHECKSUM t CHUNK 1 FROM LOW TO HIGH USING MD5\nLOG 3 s1\n  UPDATE t SET v = 12 WHERE id = 1\nLOG 4 c\n  SETMASTER t CHUNK 1 CNT 1 CRC 'afd8cf80b4beb688e2c77ac8b94682e4'\nHISTORY r1 applied 1\nHISTORY r1 applied 2\nHISTORY r1 applied 3\nHISTORY r1 applied 4\nVERDICT r1 t 1 FROM LOW TO HIGH AT 2 COUNT 1 1 DIFFER\nFINAL source t (1, 12)\nFINAL r1 t (1, 12)\nEQUAL r1 t\nSTATUS 16\n";
+
+/// The replica follows the log, and the verdict stands at its CHECKSUM.
+const FOLLOWED: &str =
+    "HISTORY r1 applied 1\nHISTORY r1 applied 2\nHISTORY r1 applied 3\nHISTORY r1 applied 4\nVERDICT r1 t 1 FROM LOW TO HIGH AT 2 COUNT 1 1 DIFFER\n";
 
 /// Wherever the applier's turns stand, ahead of the log, beside it or behind it, and on however many
 /// lines: it applies each entry once, in order, and the verdict stands at its CHECKSUM.
@@ -273,24 +263,19 @@ fn applier_runs_ahead_and_behind(rt: HostRuntime) -> Result<(), Fail> {
         "SCHEDULE r1\nSCHEDULE c c\nSCHEDULE\nSCHEDULE r1 s1\n",
         "SCHEDULE c c s1 s1 s1 r1 c c c\n",
     ] {
-        let (code, text) = outcome(rt.alloc(), &["run"], scheduled(rt.alloc(), schedule)?)?;
-        let log = has(text.as_slice(), "LOG 3 s1\n") || has(text.as_slice(), "LOG 4 s1\n");
-        assert!(rt; log, "{schedule}");
-        assert_eq!(rt; code, 16, "{schedule}");
         assert!(rt;
-            has(
-                text.as_slice(),
-                "HISTORY r1 applied 1\nHISTORY r1 applied 2\nHISTORY r1 applied 3\nHISTORY r1 applied 4\nVERDICT r1 t 1 FROM LOW TO HIGH AT 2 COUNT 1 1 DIFFER\n"
-            ),
+            schedule_gives(rt.alloc(), schedule, 16, FOLLOWED)?,
             "{schedule}"
         );
     }
-    let (_, text) = outcome(
-        rt.alloc(),
-        &["run"],
-        scheduled(rt.alloc(), "SCHEDULE c c s1\n")?,
-    )?;
-    assert_eq!(rt; text.as_slice(), BETWEEN.as_bytes());
+    Ok(())
+}
+
+/// The UPDATE between the tool's entries: the whole report.
+#[test]
+fn between_checksum_and_master(rt: HostRuntime) -> Result<(), Fail> {
+    let body = format!(in rt.alloc(); "{DRIFTED}SCHEDULE c c s1\n")?;
+    assert!(rt; file_prints(rt.alloc(), body.as_str(), 16, BETWEEN)?);
     Ok(())
 }
 
@@ -325,9 +310,10 @@ fn update_at_each_place(rt: HostRuntime) -> Result<(), Fail> {
             "VERDICT r1 t 1 FROM LOW TO HIGH AT 2 COUNT 1 1 DIFFER\nFINAL source t (1, 12)\nFINAL r1 t (1, 12)\nEQUAL r1 t\nSTATUS 16\n",
         ),
     ] {
-        let (got, text) = outcome(rt.alloc(), &["run"], scheduled(rt.alloc(), schedule)?)?;
-        assert_eq!(rt; got, code, "{schedule}");
-        assert!(rt; has(text.as_slice(), lines), "{schedule}");
+        assert!(rt;
+            schedule_gives(rt.alloc(), schedule, code, lines)?,
+            "{schedule}"
+        );
     }
     Ok(())
 }
@@ -340,30 +326,15 @@ fn hundred_thousand_items(rt: HostRuntime) -> Result<(), Fail> {
         schedule.push_str(" c r1")?;
     }
     schedule.push_str("\n")?;
-    let file = scheduled(rt.alloc(), schedule.as_str())?;
-    let (code, text) = outcome(rt.alloc(), &["run"], file)?;
-    assert_eq!(rt; code, 16);
-    assert!(rt;
-        has(
-            text.as_slice(),
-            "LOG 4 s1\n  UPDATE t SET v = 12 WHERE id = 1\nHISTORY r1 applied 1\n"
-        )
-    );
+    let lines = "LOG 4 s1\n  UPDATE t SET v = 12 WHERE id = 1\nHISTORY r1 applied 1\n";
+    assert!(rt; schedule_gives(rt.alloc(), schedule.as_str(), 16, lines)?);
     Ok(())
 }
 
 /// An item of the session is refused where no session stands.
 #[test]
 fn schedules_are_refused(rt: HostRuntime) -> Result<(), Fail> {
-    let (code, text) = outcome(
-        rt.alloc(),
-        &["run"],
-        file(rt.alloc(), "SCHEDULE c\nSCHEDULE s1\n")?,
-    )?;
-    assert_eq!(rt; code, 1);
-    assert_eq!(rt;
-        text.as_slice(),
-        b"ptc: workload refused: line 5: early\n".as_slice()
-    );
+    let line = "ptc: workload refused: line 5: early\n";
+    assert!(rt; file_prints(rt.alloc(), "SCHEDULE c\nSCHEDULE s1\n", 1, line)?);
     Ok(())
 }

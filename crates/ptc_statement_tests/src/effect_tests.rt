@@ -1,7 +1,8 @@
-use ptc_statement::{Cond, Statement, act};
+use ptc_statement::{Cond, Statement, Statements, act};
 use row_types::{LockMode, R, Row, Span, Value};
 use statement_builders::{
-    check, clear_checks, column_is, delete, insert, lock_read, replace, set_five, update,
+    SET_MASTER, check, clear_checks, column_is, delete, insert, lock_read, one, replace, set_five,
+    update,
 };
 use std::alloc::Global;
 use std::test::Fail;
@@ -85,39 +86,68 @@ fn changes_all(alloc: Global, statement: &Statement, new: Option<i64>) -> R<bool
     Ok(true)
 }
 
-/// Whether a statement leaves the three rows.
-fn changes_none(alloc: Global, statement: &Statement) -> R<bool> {
-    changes_one(alloc, statement, 9, None)
+/// Whether each of the statements leaves this number, or no row, at this key of the three rows.
+fn each_changes(alloc: Global, statements: &Statements, changed: i64, new: Option<i64>) -> R<bool> {
+    for statement in statements.as_slice() {
+        if !changes_one(alloc, statement, changed, new)? {
+            return Ok(false);
+        }
+    }
+    Ok(true)
+}
+
+/// Whether each of the statements leaves the three rows.
+fn each_leaves_all(alloc: Global, statements: &Statements) -> R<bool> {
+    each_changes(alloc, statements, 9, None)
+}
+
+/// Whether each of the statements leaves this number, or no row, at each key of the three rows.
+fn each_changes_all(alloc: Global, statements: &Statements, new: Option<i64>) -> R<bool> {
+    for statement in statements.as_slice() {
+        if !changes_all(alloc, statement, new)? {
+            return Ok(false);
+        }
+    }
+    Ok(true)
 }
 
 fn insert_leaves(alloc: Global, id: i64, value: i64) -> R<bool> {
-    let statement = insert(alloc, id, 5)?;
-    changes_one(alloc, &statement, id, Some(value))
+    let inserts = one(alloc, insert(alloc, id, 5)?)?;
+    each_changes(alloc, &inserts, id, Some(value))
 }
 
 fn replace_leaves(alloc: Global, id: i64, value: i64) -> R<bool> {
-    let statement = replace(alloc, id, 5)?;
-    changes_one(alloc, &statement, id, Some(value))
+    let replaces = one(alloc, replace(alloc, id, 5)?)?;
+    each_changes(alloc, &replaces, id, Some(value))
 }
 
 fn delete_takes(alloc: Global, column: u32, value: i64, id: i64) -> R<bool> {
-    let statement = delete(column_is(column, Value::Int(value)));
-    changes_one(alloc, &statement, id, None)
+    let deletes = one(alloc, delete(column_is(column, Value::Int(value))))?;
+    each_changes(alloc, &deletes, id, None)
+}
+
+fn delete_takes_all(alloc: Global) -> R<bool> {
+    let deletes = one(alloc, delete(None))?;
+    each_changes_all(alloc, &deletes, None)
+}
+
+fn updates(alloc: Global, cond: Option<Cond>) -> R<Statements> {
+    one(alloc, update(set_five(alloc)?, cond))
 }
 
 fn update_sets(alloc: Global, column: u32, value: i64, id: i64) -> R<bool> {
-    let statement = update(set_five(alloc)?, column_is(column, Value::Int(value)));
-    changes_one(alloc, &statement, id, Some(5))
+    let updates = updates(alloc, column_is(column, Value::Int(value)))?;
+    each_changes(alloc, &updates, id, Some(5))
 }
 
 fn update_sets_all(alloc: Global) -> R<bool> {
-    let statement = update(set_five(alloc)?, None);
-    changes_all(alloc, &statement, Some(5))
+    let updates = updates(alloc, None)?;
+    each_changes_all(alloc, &updates, Some(5))
 }
 
 fn update_of_absent_key(alloc: Global) -> R<bool> {
-    let statement = update(set_five(alloc)?, column_is(0, Value::Int(3)));
-    changes_none(alloc, &statement)
+    let updates = updates(alloc, column_is(0, Value::Int(3)))?;
+    each_leaves_all(alloc, &updates)
 }
 
 /// An INSERT puts its row at an absent key, and leaves the row at a present one.
@@ -149,7 +179,7 @@ fn deletes_take_rows_away(rt: HostRuntime) -> Result<(), Fail> {
     assert!(rt; delete_takes(alloc, 0, 2, 2)?);
     assert!(rt; delete_takes(alloc, 1, 40, 4)?);
     assert!(rt; delete_takes(alloc, 0, 3, 3)?);
-    assert!(rt; changes_all(alloc, &delete(None), None)?);
+    assert!(rt; delete_takes_all(alloc)?);
     Ok(())
 }
 
@@ -164,21 +194,29 @@ fn updates_change_rows(rt: HostRuntime) -> Result<(), Fail> {
     Ok(())
 }
 
-fn read_of_all(mode: LockMode) -> Statement {
-    lock_read(mode, Span::whole(), None)
+/// Two locking reads of all rows, for share and for update.
+fn reads(alloc: Global) -> R<Statements> {
+    let mut statements = Statements::new(alloc);
+    statements.push(lock_read(LockMode::Shared, Span::whole(), None))?;
+    statements.push(lock_read(LockMode::Exclusive, Span::whole(), None))?;
+    Ok(statements)
 }
 
-fn check_of_all() -> Statement {
-    check(Span::whole())
+/// The checksum tool's statements.
+fn tool_statements(alloc: Global) -> R<Statements> {
+    let mut statements = Statements::new(alloc);
+    statements.push(check(Span::whole()))?;
+    statements.push(SET_MASTER)?;
+    statements.push(clear_checks())?;
+    Ok(statements)
 }
 
 /// Locking reads and the checksum tool's statements leave every row.
 #[test]
 fn other_statements_leave_rows(rt: HostRuntime) -> Result<(), Fail> {
     let alloc = rt.alloc();
-    assert!(rt; changes_none(alloc, &read_of_all(LockMode::Shared))?);
-    assert!(rt; changes_none(alloc, &check_of_all())?);
-    assert!(rt; changes_none(alloc, &clear_checks())?);
+    assert!(rt; each_leaves_all(alloc, &reads(alloc)?)?);
+    assert!(rt; each_leaves_all(alloc, &tool_statements(alloc)?)?);
     Ok(())
 }
 
@@ -189,10 +227,19 @@ fn null_row_goes(alloc: Global, statement: &Statement) -> R<bool> {
     Ok(left.is_none())
 }
 
+fn each_takes_null_row(alloc: Global, statements: &Statements) -> R<bool> {
+    for statement in statements.as_slice() {
+        if !null_row_goes(alloc, statement)? {
+            return Ok(false);
+        }
+    }
+    Ok(true)
+}
+
 /// Whether a DELETE with the condition does.
 fn takes_null_row(alloc: Global, cond: Option<Cond>) -> R<bool> {
-    let statement = delete(cond);
-    null_row_goes(alloc, &statement)
+    let deletes = one(alloc, delete(cond))?;
+    each_takes_null_row(alloc, &deletes)
 }
 
 /// A comparison with NULL takes no row, and without a condition each is taken.
@@ -205,29 +252,27 @@ fn null_is_unknown(rt: HostRuntime) -> Result<(), Fail> {
     Ok(())
 }
 
-fn has_mode(statement: Statement, mode: LockMode) -> bool {
-    statement.mode() == mode
+/// Whether the statements have these modes, and each is logged or none is.
+fn are_so(statements: &Statements, modes: &[LockMode], are_logged: bool) -> bool {
+    for (statement, mode) in statements.as_slice().iter().zip(modes.iter()) {
+        if statement.mode() != *mode || statement.is_logged() != are_logged {
+            return false;
+        }
+    }
+    statements.len() == modes.len()
 }
 
-/// The mode is that of the locking read, shared for CHECKSUM, and else exclusive.
+const READ_MODES: [LockMode; 2] = [LockMode::Shared, LockMode::Exclusive];
+
+const TOOL_MODES: [LockMode; 3] = [LockMode::Shared, LockMode::Exclusive, LockMode::Exclusive];
+
+/// The mode is that of the locking read, shared for CHECKSUM, and else exclusive; all statements but
+/// locking reads are logged.
 #[test]
-fn statements_have_modes(rt: HostRuntime) {
-    assert!(rt; has_mode(read_of_all(LockMode::Shared), LockMode::Shared));
-    assert!(rt; has_mode(read_of_all(LockMode::Exclusive), LockMode::Exclusive));
-    assert!(rt; has_mode(check_of_all(), LockMode::Shared));
-    assert!(rt; has_mode(delete(None), LockMode::Exclusive));
-    assert!(rt; has_mode(clear_checks(), LockMode::Exclusive));
-}
-
-fn is_logged(statement: Statement) -> bool {
-    statement.is_logged()
-}
-
-/// All statements but locking reads are logged.
-#[test]
-fn reads_are_not_logged(rt: HostRuntime) {
-    assert!(rt; !is_logged(read_of_all(LockMode::Exclusive)));
-    assert!(rt; is_logged(check_of_all()));
-    assert!(rt; is_logged(delete(None)));
-    assert!(rt; is_logged(clear_checks()));
+fn statements_have_modes(rt: HostRuntime) -> Result<(), Fail> {
+    let alloc = rt.alloc();
+    assert!(rt; are_so(&reads(alloc)?, &READ_MODES, false));
+    assert!(rt; are_so(&tool_statements(alloc)?, &TOOL_MODES, true));
+    assert!(rt; are_so(&one(alloc, delete(None))?, &[LockMode::Exclusive], true));
+    Ok(())
 }

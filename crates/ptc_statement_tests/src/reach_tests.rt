@@ -1,8 +1,8 @@
-use ptc_statement::{Cond, Expr, Op, Statement, reach};
+use ptc_statement::{Cond, Expr, Op, Statement, Statements, reach};
 use row_types::{Edge, LockMode, R, Span, Value};
 use statement_builders::{
-    OPS, add, and, check, clear_checks, column_is, compare, delete, four_columns, insert,
-    key_compare, lock_read, not, null_test, number, or, set_five, two_keys, update,
+    OPS, SET_MASTER, add, and, check, clear_checks, column_is, compare, delete, four_columns,
+    insert, key_compare, lock_read, not, null_test, number, one, or, set_five, two_keys, update,
 };
 use std::alloc::Global;
 use std::test::Fail;
@@ -14,45 +14,42 @@ fn walks(alloc: Global, statement: &Statement, wanted: &Span) -> R<bool> {
     Ok(reach(alloc, statement, &schema)?.same(wanted))
 }
 
-/// Whether a statement walks this one key.
-fn walks_five(alloc: Global, statement: Statement) -> R<bool> {
-    let five = keys_between(alloc, 5, 5)?;
-    walks(alloc, &statement, &five)
-}
-
-/// Whether a statement walks all keys.
-fn walks_all(alloc: Global, statement: Statement) -> R<bool> {
-    walks(alloc, &statement, &Span::whole())
-}
-
-/// Whether a statement walks no key.
-fn walks_none(alloc: Global, statement: Statement) -> R<bool> {
-    let nothing = Span {
-        lo: Edge::Low,
-        hi: Edge::Low,
-    };
-    walks(alloc, &statement, &nothing)
+/// Whether each of the statements walks these keys.
+fn each_walks(alloc: Global, statements: &Statements, wanted: &Span) -> R<bool> {
+    for statement in statements.as_slice() {
+        if !walks(alloc, statement, wanted)? {
+            return Ok(false);
+        }
+    }
+    Ok(true)
 }
 
 /// Whether a DELETE with the condition walks these keys.
-fn leaves(alloc: Global, cond: Cond, wanted: &Span) -> R<bool> {
-    let statement = delete(Some(cond));
-    walks(alloc, &statement, wanted)
+fn leaves(alloc: Global, cond: Option<Cond>, wanted: &Span) -> R<bool> {
+    let deletes = one(alloc, delete(cond))?;
+    each_walks(alloc, &deletes, wanted)
 }
 
 /// Whether a DELETE with the condition walks all keys.
-fn leaves_all(alloc: Global, cond: Cond) -> R<bool> {
+fn leaves_all(alloc: Global, cond: Option<Cond>) -> R<bool> {
     leaves(alloc, cond, &Span::whole())
+}
+
+/// An INSERT and an UPDATE of one key.
+fn of_one_key(alloc: Global) -> R<Statements> {
+    let mut statements = one(alloc, insert(alloc, 5, 1)?)?;
+    statements.push(update(set_five(alloc)?, column_is(0, Value::Int(5))))?;
+    Ok(statements)
 }
 
 /// A statement with a row walks its key, one with a condition those that it leaves.
 #[test]
 fn statements_walk_keys(rt: HostRuntime) -> Result<(), Fail> {
     let alloc = rt.alloc();
-    assert!(rt; walks_five(alloc, insert(alloc, 5, 1)?)?);
-    assert!(rt; walks_five(alloc, update(set_five(alloc)?, column_is(0, Value::Int(5))))?);
-    assert!(rt; walks_all(alloc, delete(column_is(1, Value::Int(5))))?);
-    assert!(rt; walks_all(alloc, delete(None))?);
+    let five = keys_between(alloc, 5, 5)?;
+    assert!(rt; each_walks(alloc, &of_one_key(alloc)?, &five)?);
+    assert!(rt; leaves_all(alloc, column_is(1, Value::Int(5)))?);
+    assert!(rt; leaves_all(alloc, None)?);
     Ok(())
 }
 
@@ -71,19 +68,28 @@ fn between_two_and_five(alloc: Global) -> R<Span> {
 }
 
 fn lock_read_meets_both(alloc: Global) -> R<bool> {
-    let read = lock_read(
-        LockMode::Shared,
-        before_five(alloc)?,
-        Some(key_compare(Op::Gt, 2)),
-    );
-    let wanted = between_two_and_five(alloc)?;
-    walks(alloc, &read, &wanted)
+    let cond = Some(key_compare(Op::Gt, 2));
+    let reads = one(
+        alloc,
+        lock_read(LockMode::Shared, before_five(alloc)?, cond),
+    )?;
+    each_walks(alloc, &reads, &between_two_and_five(alloc)?)
 }
 
 fn check_walks_its_span(alloc: Global) -> R<bool> {
-    let check = check(before_five(alloc)?);
-    let wanted = before_five(alloc)?;
-    walks(alloc, &check, &wanted)
+    let checks = one(alloc, check(before_five(alloc)?))?;
+    each_walks(alloc, &checks, &before_five(alloc)?)
+}
+
+/// The tool's statements on check rows walk no key.
+fn others_walk_none(alloc: Global) -> R<bool> {
+    let mut statements = one(alloc, clear_checks())?;
+    statements.push(SET_MASTER)?;
+    let nothing = Span {
+        lo: Edge::Low,
+        hi: Edge::Low,
+    };
+    each_walks(alloc, &statements, &nothing)
 }
 
 /// A locking read walks the keys of both span and condition, CHECKSUM those of its span, and the
@@ -93,7 +99,7 @@ fn spans_are_walked(rt: HostRuntime) -> Result<(), Fail> {
     let alloc = rt.alloc();
     assert!(rt; lock_read_meets_both(alloc)?);
     assert!(rt; check_walks_its_span(alloc)?);
-    assert!(rt; walks_none(alloc, clear_checks())?);
+    assert!(rt; others_walk_none(alloc)?);
     Ok(())
 }
 
@@ -116,13 +122,17 @@ const EXCHANGED: [Op; 6] = [Op::Eq, Op::Ne, Op::Gt, Op::Ge, Op::Lt, Op::Le];
 /// Whether the first column compared with 5 leaves the keys that the sign gives.
 fn left_narrows(alloc: Global, op: Op) -> R<bool> {
     let wanted = of_five(alloc, op)?;
-    leaves(alloc, key_compare(op, 5), &wanted)
+    leaves(alloc, Some(key_compare(op, 5)), &wanted)
 }
 
 /// Whether 5 compared with the first column by the exchanged sign leaves the same ones.
 fn right_narrows(alloc: Global, op: Op, exchanged: Op) -> R<bool> {
     let wanted = of_five(alloc, op)?;
-    leaves(alloc, compare(exchanged, number(5), Expr::Cell(0)), &wanted)
+    leaves(
+        alloc,
+        Some(compare(exchanged, number(5), Expr::Cell(0))),
+        &wanted,
+    )
 }
 
 /// Each sign, with the column on the left and on the right.
@@ -155,7 +165,7 @@ fn after_two_to_nine(alloc: Global) -> R<Span> {
 
 fn nested_narrows(alloc: Global) -> R<bool> {
     let wanted = after_two_to_nine(alloc)?;
-    leaves(alloc, nested(alloc)?, &wanted)
+    leaves(alloc, Some(nested(alloc)?), &wanted)
 }
 
 /// ANDs under ANDs narrow.
@@ -165,10 +175,10 @@ fn joined_terms_narrow(rt: HostRuntime) -> Result<(), Fail> {
     Ok(())
 }
 
-/// A DELETE where the key is below 2 and above 9.
-fn crossed(alloc: Global) -> R<Statement> {
+/// DELETEs where the key is below 2 and above 9.
+fn crossed(alloc: Global) -> R<Statements> {
     let cond = and(alloc, key_compare(Op::Lt, 2), key_compare(Op::Gt, 9))?;
-    Ok(delete(Some(cond)))
+    one(alloc, delete(Some(cond)))
 }
 
 /// Whether a statement walks a key.
@@ -178,17 +188,23 @@ fn walks_key(alloc: Global, statement: &Statement, id: i64) -> R<bool> {
     Ok(reached.has(&key(alloc, id)?))
 }
 
-fn crossed_walks(alloc: Global, id: i64) -> R<bool> {
-    let statement = crossed(alloc)?;
-    walks_key(alloc, &statement, id)
+/// Whether one of the statements walks a key.
+fn one_walks_key(alloc: Global, statements: &Statements, id: i64) -> R<bool> {
+    for statement in statements.as_slice() {
+        if walks_key(alloc, statement, id)? {
+            return Ok(true);
+        }
+    }
+    Ok(false)
 }
 
 /// Terms that exclude one another leave no key.
 #[test]
 fn crossed_terms_leave_nothing(rt: HostRuntime) -> Result<(), Fail> {
     let alloc = rt.alloc();
+    let deletes = crossed(alloc)?;
     for id in [1, 2, 5, 9, 10] {
-        assert!(rt; !crossed_walks(alloc, id)?, "{id}");
+        assert!(rt; !one_walks_key(alloc, &deletes, id)?, "{id}");
     }
     Ok(())
 }
@@ -211,8 +227,8 @@ fn key_is_sum(alloc: Global) -> R<Cond> {
 #[test]
 fn other_terms_narrow_nothing(rt: HostRuntime) -> Result<(), Fail> {
     let alloc = rt.alloc();
-    assert!(rt; leaves_all(alloc, either(alloc)?)?);
-    assert!(rt; leaves_all(alloc, not(alloc, key_compare(Op::Ne, 1))?)?);
+    assert!(rt; leaves_all(alloc, Some(either(alloc)?))?);
+    assert!(rt; leaves_all(alloc, Some(not(alloc, key_compare(Op::Ne, 1))?))?);
     Ok(())
 }
 
@@ -220,9 +236,9 @@ fn other_terms_narrow_nothing(rt: HostRuntime) -> Result<(), Fail> {
 #[test]
 fn other_sides_narrow_nothing(rt: HostRuntime) -> Result<(), Fail> {
     let alloc = rt.alloc();
-    assert!(rt; leaves_all(alloc, key_is_sum(alloc)?)?);
-    assert!(rt; leaves_all(alloc, key_is_unknown())?);
-    assert!(rt; leaves_all(alloc, null_test(0, false))?);
+    assert!(rt; leaves_all(alloc, Some(key_is_sum(alloc)?))?);
+    assert!(rt; leaves_all(alloc, Some(key_is_unknown()))?);
+    assert!(rt; leaves_all(alloc, Some(null_test(0, false)))?);
     Ok(())
 }
 
@@ -254,8 +270,17 @@ fn walks_of_two(alloc: Global, statement: &Statement, wanted: &Span) -> R<bool> 
 
 /// Whether a DELETE with the condition does.
 fn leaves_of_two(alloc: Global, cond: Cond, wanted: &Span) -> R<bool> {
-    let statement = delete(Some(cond));
-    walks_of_two(alloc, &statement, wanted)
+    let deletes = one(alloc, delete(Some(cond)))?;
+    each_walks_of_two(alloc, &deletes, wanted)
+}
+
+fn each_walks_of_two(alloc: Global, statements: &Statements, wanted: &Span) -> R<bool> {
+    for statement in statements.as_slice() {
+        if !walks_of_two(alloc, statement, wanted)? {
+            return Ok(false);
+        }
+    }
+    Ok(true)
 }
 
 fn whole_key_narrows(alloc: Global) -> R<bool> {

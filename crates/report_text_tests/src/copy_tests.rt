@@ -1,7 +1,7 @@
 //! Copies: each is the same as what it was made from, and not the same as another.
 use crate::summaries::{empty_summary, some_span};
 use checksum_table::Verdict;
-use report_text::{DuplicateLine, EqualLine, VerdictLine};
+use report_text::{DuplicateLine, EqualLine, Summary, VerdictLine, VerdictLines};
 use row_types::R;
 use std::alloc::Global;
 use std::test::Fail;
@@ -20,6 +20,13 @@ fn verdict_line(alloc: Global, own: Option<u64>) -> R<VerdictLine> {
     })
 }
 
+/// One line of a replica without a row, or with an empty one.
+fn verdict_lines(alloc: Global, own: Option<u64>) -> R<VerdictLines> {
+    let mut lines = VerdictLines::new(alloc);
+    lines.push(verdict_line(alloc, own)?)?;
+    Ok(lines)
+}
+
 fn equal_line(equal: bool) -> EqualLine {
     EqualLine {
         replica: 1,
@@ -35,12 +42,16 @@ fn duplicate_line(session: u32) -> DuplicateLine {
     }
 }
 
+fn verdicts_are_copied(alloc: Global, lines: &VerdictLines, others: &VerdictLines) -> R<bool> {
+    let copy = lines.copy(alloc)?;
+    Ok(copy.same(lines) && !copy.same(others))
+}
+
 #[test]
 fn lines_are_copied(rt: HostRuntime) -> Result<(), Fail> {
     let alloc = rt.alloc();
-    let (line, other) = (verdict_line(alloc, None)?, verdict_line(alloc, Some(0))?);
-    let copy = line.copy(alloc)?;
-    assert!(rt; copy.same(&line) && !copy.same(&other));
+    let others = verdict_lines(alloc, Some(0))?;
+    assert!(rt; verdicts_are_copied(alloc, &verdict_lines(alloc, None)?, &others)?);
     let copy = equal_line(true).copy(alloc)?;
     assert!(rt; copy.same(&equal_line(true)) && !copy.same(&equal_line(false)));
     let copy = duplicate_line(1).copy(alloc)?;
@@ -48,15 +59,26 @@ fn lines_are_copied(rt: HostRuntime) -> Result<(), Fail> {
     Ok(())
 }
 
+fn one_verdict(alloc: Global) -> R<Summary> {
+    let mut summary = empty_summary(alloc)?;
+    summary.verdicts = verdict_lines(alloc, None)?;
+    Ok(summary)
+}
+
+/// Whether the copy is the same, and no longer with another status.
+fn is_copied(alloc: Global, summary: &Summary) -> R<bool> {
+    let mut copy = summary.copy(alloc)?;
+    let is_same = copy.same(summary);
+    copy.status = 16;
+    Ok(is_same && !copy.same(summary))
+}
+
 /// Another in its verdicts, and another in its status.
 #[test]
 fn summaries_are_copied(rt: HostRuntime) -> Result<(), Fail> {
     let alloc = rt.alloc();
-    let mut summary = empty_summary(alloc)?;
-    summary.verdicts.push(verdict_line(alloc, None)?)?;
-    let mut copy = summary.copy(alloc)?;
-    assert!(rt; copy.same(&summary) && !copy.same(&empty_summary(alloc)?));
-    copy.status = 16;
-    assert!(rt; !copy.same(&summary));
+    let summary = one_verdict(alloc)?;
+    assert!(rt; is_copied(alloc, &summary)?);
+    assert!(rt; !summary.same(&empty_summary(alloc)?));
     Ok(())
 }

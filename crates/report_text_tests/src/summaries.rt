@@ -41,14 +41,13 @@ pub fn some_span(alloc: Global) -> R<Span> {
     })
 }
 
-/// Whether the report has these lines between its first two and its last.
+const HEAD: &[u8] =
+    b"PTC REPORT 1\nTABLE t (a BIGINT KEY, b VARCHAR(4) KEY, v INT NOT NULL, w INT)\n";
+
+/// Whether the report has just these lines after its first two.
 pub fn has_lines(alloc: Global, summary: &Summary, lines: &[u8]) -> R<bool> {
     let text = report(alloc, summary)?;
-    let mut expected = Vec::from_slice(alloc, b"PTC REPORT 1\n")?;
-    expected.extend_from_slice(
-        b"TABLE t (a BIGINT KEY, b VARCHAR(4) KEY, v INT NOT NULL, w INT)\n",
-    )?;
-    expected.extend_from_slice(lines)?;
-    expected.extend_from_slice(b"STATUS 0\n")?;
-    Ok(text.as_slice() == expected.as_slice())
+    let text = text.as_slice();
+    let is_split = text.len().checked_sub(lines.len()) == Some(HEAD.len());
+    Ok(is_split && text.starts_with(HEAD) && text.ends_with(lines))
 }

@@ -11,6 +11,6 @@ pub use condition_builders::{
 };
 pub use expression_builders::{add, mul, neg, number, sub};
 pub use statement_builders::{
-    SET_MASTER, check, clear_checks, delete, insert, lock_read, replace, set, set_five, update,
+    SET_MASTER, check, clear_checks, delete, insert, lock_read, one, replace, set, set_five, update,
 };
 pub use table_builders::{four, four_columns, two_keys};

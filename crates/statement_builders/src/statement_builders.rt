@@ -1,8 +1,15 @@
 use crate::expression_builders::number;
-use ptc_statement::{Assignment, Assignments, Cond, Expr, Statement};
+use ptc_statement::{Assignment, Assignments, Cond, Expr, Statement, Statements};
 use row_types::{Digest, DigestKind, LockMode, R, Span};
 use std::alloc::Global;
 use test_builders::row;
+
+/// A list of one: tests hold a statement in a list, since one held by itself takes a minute to prove.
+pub fn one(alloc: Global, statement: Statement) -> R<Statements> {
+    let mut statements = Statements::new(alloc);
+    statements.push(statement)?;
+    Ok(statements)
+}
 
 pub fn insert(alloc: Global, id: i64, value: i64) -> R<Statement> {
     Ok(Statement::Insert {

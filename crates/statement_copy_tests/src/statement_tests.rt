@@ -1,195 +1,128 @@
-use ptc_statement::{
-    Assignment, Cond, Script, ScriptLine, ScriptLines, ScriptStep, Scripts, Statement, Statements,
-};
+//! Copies of statements and scripts.
+use ptc_statement::{Script, ScriptLine, ScriptLines, ScriptStep, Scripts, Statement, Statements};
 use row_types::{LockMode, R, Value};
 use statement_builders::{
-    SET_MASTER, check, clear_checks, column_is, delete, insert, lock_read, number, replace,
-    set_five, update,
+    SET_MASTER, check, clear_checks, column_is, delete, insert, lock_read, replace, set_five,
+    update,
 };
 use std::alloc::Global;
 use std::test::Fail;
 use test_builders::keys_between;
-
-fn is_copied(alloc: Global, statement: &Statement) -> R<bool> {
-    let copy = statement.copy(alloc)?;
-    Ok(copy.same(statement))
-}
-
-fn insert_is_copied(alloc: Global) -> R<bool> {
-    let statement = insert(alloc, 1, 5)?;
-    is_copied(alloc, &statement)
-}
-
-fn replace_is_copied(alloc: Global) -> R<bool> {
-    let statement = replace(alloc, 1, 5)?;
-    is_copied(alloc, &statement)
-}
-
-fn delete_is_copied(alloc: Global, cond: Option<Cond>) -> R<bool> {
-    let statement = delete(cond);
-    is_copied(alloc, &statement)
-}
-
-fn update_is_copied(alloc: Global) -> R<bool> {
-    let statement = update(set_five(alloc)?, None);
-    is_copied(alloc, &statement)
-}
 
 fn read_of_some(alloc: Global) -> R<Statement> {
     let span = keys_between(alloc, 1, 5)?;
     Ok(lock_read(LockMode::Shared, span, column_is(1, Value::Null)))
 }
 
-fn check_of_some(alloc: Global) -> R<Statement> {
-    Ok(check(keys_between(alloc, 1, 5)?))
-}
-
-fn lock_read_is_copied(alloc: Global) -> R<bool> {
-    let statement = read_of_some(alloc)?;
-    is_copied(alloc, &statement)
-}
-
-fn check_is_copied(alloc: Global) -> R<bool> {
-    let statement = check_of_some(alloc)?;
-    is_copied(alloc, &statement)
-}
-
-/// Each of the clients' statements has a copy.
-#[test]
-fn client_statements_are_copied(rt: HostRuntime) -> Result<(), Fail> {
-    let alloc = rt.alloc();
-    assert!(rt; insert_is_copied(alloc)?);
-    assert!(rt; replace_is_copied(alloc)?);
-    assert!(rt; delete_is_copied(alloc, None)?);
-    Ok(())
-}
-
-/// Statements with conditions have copies.
-#[test]
-fn conditional_statements_are_copied(rt: HostRuntime) -> Result<(), Fail> {
-    let alloc = rt.alloc();
-    assert!(rt; delete_is_copied(alloc, column_is(1, Value::Int(5)))?);
-    assert!(rt; update_is_copied(alloc)?);
-    assert!(rt; lock_read_is_copied(alloc)?);
-    Ok(())
-}
-
-/// Each of the checksum tool's statements has a copy.
-#[test]
-fn tool_statements_are_copied(rt: HostRuntime) -> Result<(), Fail> {
-    let alloc = rt.alloc();
-    assert!(rt; check_is_copied(alloc)?);
-    assert!(rt; is_copied(alloc, &SET_MASTER)?);
-    assert!(rt; is_copied(alloc, &clear_checks())?);
-    Ok(())
-}
-
-fn insert_is_no_replace(alloc: Global) -> R<bool> {
-    let left = insert(alloc, 1, 5)?;
-    is_no_replace(alloc, &left)
-}
-
-fn is_no_replace(alloc: Global, left: &Statement) -> R<bool> {
-    let right = replace(alloc, 1, 5)?;
-    Ok(!left.same(&right))
-}
-
-fn update_is_no_delete(alloc: Global) -> R<bool> {
-    let left = update(set_five(alloc)?, None);
-    Ok(!left.same(&delete(None)))
-}
-
-fn check_is_no_master(alloc: Global) -> R<bool> {
-    let left = check_of_some(alloc)?;
-    Ok(!left.same(&SET_MASTER))
-}
-
-/// Statements of different kinds are not the same.
-#[test]
-fn statements_are_told_apart(rt: HostRuntime) -> Result<(), Fail> {
-    let alloc = rt.alloc();
-    assert!(rt; insert_is_no_replace(alloc)?);
-    assert!(rt; update_is_no_delete(alloc)?);
-    assert!(rt; check_is_no_master(alloc)?);
-    Ok(())
-}
-
-fn assignment_is_copied(alloc: Global) -> R<bool> {
-    let assignment = Assignment {
-        column: 1,
-        expr: number(5),
-    };
-    Ok(assignment.copy(alloc)?.same(&assignment))
-}
-
-/// Two statements.
-fn statements(alloc: Global) -> R<Statements> {
+/// Each of the clients' statements.
+fn client_statements(alloc: Global) -> R<Statements> {
     let mut statements = Statements::new(alloc);
     statements.push(insert(alloc, 1, 5)?)?;
+    statements.push(replace(alloc, 1, 5)?)?;
+    statements.push(delete(None))?;
+    statements.push(update(set_five(alloc)?, None))?;
+    statements.push(read_of_some(alloc)?)?;
+    Ok(statements)
+}
+
+/// Each of the checksum tool's statements.
+fn tool_statements(alloc: Global) -> R<Statements> {
+    let mut statements = Statements::new(alloc);
+    statements.push(check(keys_between(alloc, 1, 5)?))?;
+    statements.push(SET_MASTER)?;
     statements.push(clear_checks())?;
     Ok(statements)
 }
 
-fn statements_are_same(alloc: Global) -> R<bool> {
-    let statements = statements(alloc)?;
+fn are_copied(alloc: Global, statements: &Statements) -> R<bool> {
     let copy = statements.copy(alloc)?;
-    Ok(copy.same(&statements) && copy.len() == 2)
+    Ok(copy.same(statements) && differ(statements.as_slice()))
 }
 
-/// Assignments and lists of statements have copies.
+/// Whether no statement is the same as another.
+fn differ(statements: &[Statement]) -> bool {
+    for i in 0..statements.len() {
+        if !is_only(statements, i) {
+            return false;
+        }
+    }
+    true
+}
+
+fn is_only(statements: &[Statement], place: usize) -> bool {
+    for (i, other) in statements.iter().enumerate() {
+        match statements.get(place) {
+            Some(statement) if statement.same(other) == (i == place) => (),
+            _ => return false,
+        }
+    }
+    true
+}
+
+/// Each kind of statement has a copy, and is told from the others.
 #[test]
-fn lists_of_statements_are_copied(rt: HostRuntime) -> Result<(), Fail> {
+fn statements_are_copied(rt: HostRuntime) -> Result<(), Fail> {
     let alloc = rt.alloc();
-    assert!(rt; assignment_is_copied(alloc)?);
-    assert!(rt; statements_are_same(alloc)?);
+    assert!(rt; are_copied(alloc, &client_statements(alloc)?)?);
+    assert!(rt; are_copied(alloc, &tool_statements(alloc)?)?);
     Ok(())
 }
 
-fn step_is_copied(alloc: Global, step: &ScriptStep) -> R<bool> {
-    let copy = step.copy(alloc)?;
-    Ok(copy.same(step))
+fn push(lines: &mut ScriptLines, line: u32, step: ScriptStep) -> R<()> {
+    lines.push(ScriptLine { line, step })
 }
 
-fn run_is_copied(alloc: Global) -> R<bool> {
-    let step = ScriptStep::Run(insert(alloc, 1, 5)?);
-    step_is_copied(alloc, &step)
-}
-
-/// Each kind of script line has a copy.
-#[test]
-fn script_steps_are_copied(rt: HostRuntime) -> Result<(), Fail> {
-    let alloc = rt.alloc();
-    assert!(rt; step_is_copied(alloc, &ScriptStep::Begin)?);
-    assert!(rt; step_is_copied(alloc, &ScriptStep::Commit)?);
-    assert!(rt; step_is_copied(alloc, &ScriptStep::Rollback)?);
-    assert!(rt; run_is_copied(alloc)?);
-    assert!(rt; !ScriptStep::Begin.same(&ScriptStep::Commit));
-    assert!(rt; !ScriptStep::Commit.same(&ScriptStep::Rollback));
-    Ok(())
-}
-
-/// The script of one session: BEGIN, an INSERT.
-fn scripts(alloc: Global) -> R<Scripts> {
+/// BEGIN, an INSERT, COMMIT, ROLLBACK.
+fn lines(alloc: Global) -> R<ScriptLines> {
     let mut lines = ScriptLines::new(alloc);
-    lines.push(ScriptLine {
-        line: 7,
-        step: ScriptStep::Begin,
-    })?;
-    lines.push(ScriptLine {
-        line: 8,
-        step: ScriptStep::Run(insert(alloc, 1, 5)?),
-    })?;
+    push(&mut lines, 7, ScriptStep::Begin)?;
+    push(&mut lines, 8, ScriptStep::Run(insert(alloc, 1, 5)?))?;
+    push(&mut lines, 9, ScriptStep::Commit)?;
+    push(&mut lines, 10, ScriptStep::Rollback)?;
+    Ok(lines)
+}
+
+/// The scripts of two sessions, one of them empty.
+fn scripts(alloc: Global) -> R<Scripts> {
     let mut scripts = Scripts::new(alloc);
-    scripts.push(Script { lines })?;
+    scripts.push(Script {
+        lines: lines(alloc)?,
+    })?;
+    scripts.push(Script {
+        lines: ScriptLines::new(alloc),
+    })?;
     Ok(scripts)
 }
 
-/// Scripts have copies.
+fn scripts_are_copied(alloc: Global, scripts: &Scripts) -> R<bool> {
+    let copy = scripts.copy(alloc)?;
+    Ok(copy.same(scripts) && copy.len() == 2)
+}
+
+fn lines_differ(lines: &[ScriptLine]) -> bool {
+    for i in 0..lines.len() {
+        if !is_only_line(lines, i) {
+            return false;
+        }
+    }
+    true
+}
+
+fn is_only_line(lines: &[ScriptLine], place: usize) -> bool {
+    for (i, other) in lines.iter().enumerate() {
+        match lines.get(place) {
+            Some(line) if line.step.same(&other.step) == (i == place) => (),
+            _ => return false,
+        }
+    }
+    true
+}
+
+/// Scripts have copies, and each kind of line is told from the others.
 #[test]
-fn scripts_are_copied(rt: HostRuntime) -> Result<(), Fail> {
-    let scripts = scripts(rt.alloc())?;
-    let copy = scripts.copy(rt.alloc())?;
-    assert!(rt; copy.same(&scripts));
-    assert!(rt; copy.len() == 1);
+fn scripts_have_copies(rt: HostRuntime) -> Result<(), Fail> {
+    let alloc = rt.alloc();
+    assert!(rt; scripts_are_copied(alloc, &scripts(alloc)?)?);
+    assert!(rt; lines_differ(lines(alloc)?.as_slice()));
     Ok(())
 }

@@ -1,5 +1,4 @@
 //! The reader of the file: what it reads, and the first line that is not in the form.
-use crate::file_texts::HEAD;
 use ptc_run::{FileFault, LimitKind, read};
 use ptc_statement::{Assignment, Cond, Expr, Op, ScriptStep, Sets, Statement};
 use row_types::{Tables, Value};
@@ -7,6 +6,9 @@ use std::alloc::Global;
 use std::test::Fail;
 use test_builders::{pair_schema, row};
 use workload_file::{Actor, Item, Workload};
+
+/// The lines before the first row.
+const HEAD: &str = "PTC WORKLOAD 1\nREPLICAS 1\nTABLE t (id BIGINT KEY, v BIGINT)\n";
 
 fn read_body(rt: &HostRuntime, body: &str) -> Result<Result<Workload, FileFault>, Fail> {
     let text = format!(in rt.alloc(); "{HEAD}{body}")?;
@@ -65,21 +67,19 @@ fn reads_rows(rt: HostRuntime) -> Result<(), Fail> {
 
 #[test]
 fn finds_early_lines(rt: HostRuntime) -> Result<(), Fail> {
-    assert_eq!(rt; early_line(&rt, "END\n")?, 0);
-    assert_eq!(rt; early_line(&rt, "END")?, 4);
-    assert_eq!(rt; early_line(&rt, "")?, 4);
-    assert_eq!(rt; early_line(&rt, "END\nEND\n")?, 5);
-    assert_eq!(rt; early_line(&rt, "END\n\n")?, 5);
-    assert_eq!(rt; early_line(&rt, "ROW * t (1, 2)\n")?, 5);
-    assert_eq!(rt;
-        early_line(&rt, "ROW * t (1, 2)\nROW r1 t (1, 2)\nEND\n")?,
-        5
-    );
-    assert_eq!(rt;
-        early_line(&rt, "ROW source t (1, 2)\nROW r1 t (1, 2)\nEND\n")?,
-        0
-    );
-    assert_eq!(rt; early_line(&rt, "SESSION s1 source\nEND\n")?, 4);
+    for (body, line) in [
+        ("END\n", 0),
+        ("END", 4),
+        ("", 4),
+        ("END\nEND\n", 5),
+        ("END\n\n", 5),
+        ("ROW * t (1, 2)\n", 5),
+        ("ROW * t (1, 2)\nROW r1 t (1, 2)\nEND\n", 5),
+        ("ROW source t (1, 2)\nROW r1 t (1, 2)\nEND\n", 0),
+        ("SESSION s1 source\nEND\n", 4),
+    ] {
+        assert_eq!(rt; early_line(&rt, body)?, line, "{body}");
+    }
     for row in [
         "9223372036854775808, 0",
         "-9223372036854775809, 0",
@@ -94,8 +94,12 @@ fn finds_early_lines(rt: HostRuntime) -> Result<(), Fail> {
         let body = format!(in rt.alloc(); "ROW * t ({row})\nEND\n")?;
         assert_eq!(rt; early_line(&rt, body.as_str())?, 4);
     }
-    assert_eq!(rt; early_line(&rt, "ROW * t (5, 0)\r\nEND\n")?, 4);
-    assert_eq!(rt; early_line(&rt, "ROW * t (5, 0) \nEND\n")?, 4);
+    for (body, line) in [
+        ("ROW * t (5, 0)\r\nEND\n", 4),
+        ("ROW * t (5, 0) \nEND\n", 4),
+    ] {
+        assert_eq!(rt; early_line(&rt, body)?, line, "{body}");
+    }
     Ok(())
 }
 
@@ -204,22 +208,20 @@ fn reads_a_script(rt: HostRuntime) -> Result<(), Fail> {
 
 #[test]
 fn finds_early_lines_of_a_script(rt: HostRuntime) -> Result<(), Fail> {
-    assert_eq!(rt; early_line(&rt, "SESSION s2\nEND\n")?, 4);
-    assert_eq!(rt; early_line(&rt, "SESSION s1 \nEND\n")?, 4);
-    assert_eq!(rt; early_line(&rt, "ROW * t (1, 2)\nSESSION\nEND\n")?, 5);
-    assert_eq!(rt; early_line(&rt, "SESSION s1")?, 4);
-    assert_eq!(rt; early_line(&rt, "SESSION s1\n")?, 5);
-    assert_eq!(rt; early_line(&rt, "SESSION s1\nSESSION s1\nEND\n")?, 5);
-    assert_eq!(rt; early_line(&rt, "SESSION s1\nROW * t (1, 2)\nEND\n")?, 5);
-    assert_eq!(rt;
-        early_line(&rt, "SESSION s1\nDELETE FROM t WHERE id = 1\n")?,
-        6
-    );
-    assert_eq!(rt;
-        early_line(&rt, "SESSION s1\nDELETE FROM t WHERE id = 1\nEND\n\n")?,
-        7
-    );
-    assert_eq!(rt; early_line(&rt, "DELETE FROM t WHERE id = 1\nEND\n")?, 4);
+    for (body, line) in [
+        ("SESSION s2\nEND\n", 4),
+        ("SESSION s1 \nEND\n", 4),
+        ("ROW * t (1, 2)\nSESSION\nEND\n", 5),
+        ("SESSION s1", 4),
+        ("SESSION s1\n", 5),
+        ("SESSION s1\nSESSION s1\nEND\n", 5),
+        ("SESSION s1\nROW * t (1, 2)\nEND\n", 5),
+        ("SESSION s1\nDELETE FROM t WHERE id = 1\n", 6),
+        ("SESSION s1\nDELETE FROM t WHERE id = 1\nEND\n\n", 7),
+        ("DELETE FROM t WHERE id = 1\nEND\n", 4),
+    ] {
+        assert_eq!(rt; early_line(&rt, body)?, line, "{body}");
+    }
     Ok(())
 }
 
@@ -317,25 +319,23 @@ fn reads_a_long_schedule(rt: HostRuntime) -> Result<(), Fail> {
 
 #[test]
 fn finds_early_lines_of_a_schedule(rt: HostRuntime) -> Result<(), Fail> {
-    assert_eq!(rt; early_line(&rt, "SCHEDULE s1\nEND\n")?, 4);
-    assert_eq!(rt; early_line(&rt, "SCHEDULE c\nSCHEDULE c s1\nEND\n")?, 5);
-    assert_eq!(rt; early_line(&rt, "SCHEDULE c\n")?, 5);
-    assert_eq!(rt; early_line(&rt, "SCHEDULE c")?, 4);
-    assert_eq!(rt; early_line(&rt, "SESSION s1\nSCHEDULE c\nSCHEDULE\n")?, 7);
-    assert_eq!(rt; early_line(&rt, "SCHEDULE c\nEND\nSCHEDULE c\n")?, 6);
-    assert_eq!(rt; early_line(&rt, "SCHEDULE c\nROW * t (1, 2)\nEND\n")?, 5);
-    assert_eq!(rt; early_line(&rt, "SCHEDULE c\nSESSION s1\nEND\n")?, 5);
-    assert_eq!(rt;
-        early_line(
-            &rt,
-            "SESSION s1\nSCHEDULE c\nDELETE FROM t WHERE id = 1\nEND\n"
-        )?,
-        6
-    );
-    assert_eq!(rt;
-        early_line(&rt, "SESSION s1\nSCHEDULE c\nSESSION s1\nEND\n")?,
-        6
-    );
+    for (body, line) in [
+        ("SCHEDULE s1\nEND\n", 4),
+        ("SCHEDULE c\nSCHEDULE c s1\nEND\n", 5),
+        ("SCHEDULE c\n", 5),
+        ("SCHEDULE c", 4),
+        ("SESSION s1\nSCHEDULE c\nSCHEDULE\n", 7),
+        ("SCHEDULE c\nEND\nSCHEDULE c\n", 6),
+        ("SCHEDULE c\nROW * t (1, 2)\nEND\n", 5),
+        ("SCHEDULE c\nSESSION s1\nEND\n", 5),
+        (
+            "SESSION s1\nSCHEDULE c\nDELETE FROM t WHERE id = 1\nEND\n",
+            6,
+        ),
+        ("SESSION s1\nSCHEDULE c\nSESSION s1\nEND\n", 6),
+    ] {
+        assert_eq!(rt; early_line(&rt, body)?, line, "{body}");
+    }
     Ok(())
 }
 
