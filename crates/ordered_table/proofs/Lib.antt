@@ -1,7 +1,10 @@
 pub mod CutLemmas
+pub mod LeadingLemmas
 pub mod PlaceLemmas
 pub mod NeighbourLemmas
 pub mod SizeLemmas
+pub mod PushLemmas
+pub mod LengthLemmas
 pub mod PageOfLemmas
 pub mod SearchLemmas
 pub mod ChangeLemmas

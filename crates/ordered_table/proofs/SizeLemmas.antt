@@ -306,3 +306,8 @@ neighbours_more n before [] are within = absurd (omega arith)
 neighbours_more zero before (page ∷ []) are within = absurd (omega arith)
 neighbours_more zero before (page ∷ next ∷ pages) are within = are.2.0
 neighbours_more (suc n) before (page ∷ pages) are within = neighbours_more n (length page) pages are.2 (omega arith)
+
+-- fewer spare rows need no more
+pub room_less : (rows spare less pages empties : ℕ) → HasRoom rows spare pages empties → less ≤ spare → HasRoom rows less pages empties
+room_less rows spare less pages empties (inl each) le = inl (omega arith)
+room_less rows spare less pages empties (inr all) le = inr (omega arith)

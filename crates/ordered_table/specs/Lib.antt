@@ -1,4 +1,5 @@
 pub mod Places
+pub mod Leading
 pub mod Neighbours
 pub mod TableView
 pub mod Pages

@@ -1,5 +1,5 @@
 -- Rows in pages: their sizes, the rows of all pages, and how pages are split and joined.
-use Rattle.std.specs.Prelude.{ℕ, zero, suc, ◌≤◌, ◌<◌, ◌+◌, cond, List, [], ◌∷◌, ◌++◌, length, slice_set, nat_le}
+use Rattle.std.specs.Prelude.{ℕ, zero, suc, ◌≡◌, ◌≤◌, ◌<◌, ◌+◌, cond, List, [], ◌∷◌, ◌++◌, length, slice_set, nat_le}
 use Rattle.std.specs.List.{insert}
 
 -- the rows of all pages, page after page
@@ -12,6 +12,12 @@ flat (page ∷ pages) = page ++ flat pages
 abbrev pub ArePages : {X : Type 0} → ℕ → List (List X) → Type 0
 ArePages before [] = Unit {0}
 ArePages before (page ∷ pages) = (64 < before + length page) × (length page ≤ 64) × ArePages (length page) pages
+
+-- each is more than this together with the next one
+abbrev pub NeighboursExceed : ℕ → List ℕ → Type 0
+NeighboursExceed most [] = Unit {0}
+NeighboursExceed most (m ∷ []) = Unit {0}
+NeighboursExceed most (m ∷ n ∷ ns) = (most < m + n) × NeighboursExceed most (n ∷ ns)
 
 -- one page in place of two neighbours, where the two hold at most 64 rows
 abbrev pub joined : {X : Type 0} → ℕ → List (List X) → List (List X)
@@ -39,6 +45,12 @@ abbrev pub without_empty : {X : Type 0} → List (List X) → List (List X)
 without_empty [] = []
 without_empty ([] ∷ pages) = pages
 without_empty ((row ∷ rows) ∷ pages) = (row ∷ rows) ∷ pages
+
+-- there is no page, or the last one has 64 rows
+abbrev pub IsLastFull : {X : Type 0} → List (List X) → Type 0
+IsLastFull [] = Unit {0}
+IsLastFull (page ∷ []) = length page ≡ 64
+IsLastFull (page ∷ next ∷ pages) = IsLastFull (next ∷ pages)
 
 -- it has a row
 abbrev pub HasRow : {X : Type 0} → List X → Type 0

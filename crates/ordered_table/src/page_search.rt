@@ -4,12 +4,27 @@ ghost use Rattle.ordered_table.specs.Places.{IsCut, is_past};
 ghost use Rattle.ordered_table.specs.Pages.{flat, ArePages};
 ghost use Rattle.ordered_table.specs.PageOf.{firsts, IsPageOf};
 
+use crate::leading_numbers::{leading, leading_order};
 use crate::pages::Page;
 use crate::places::is_behind;
 use row_types::Value;
 
 /// Whether the key of the page's first row is past this one.
+#[tactic(auto, using(crate::proofs::LeadingLemmas::page_decides))]
 fn is_page_behind(page: &Page, key_len: u8, key: &[Value]) -> bool
+    ensures { result ≡ is_past true key.now (take key_len (slice_index_or page.now 0 [])) }
+{
+    if key_len > 0 {
+        let first = leading_order(leading(key), page.leading());
+        if first.is_ne() {
+            return first.is_lt();
+        }
+    }
+    is_first_behind(page, key_len, key)
+}
+
+/// The same, by the row itself.
+fn is_first_behind(page: &Page, key_len: u8, key: &[Value]) -> bool
     ensures { result ≡ is_past true key.now (take key_len (slice_index_or page.now 0 [])) }
 {
     match page.rows().first() {

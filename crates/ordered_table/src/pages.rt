@@ -1,15 +1,19 @@
 ghost use Rattle.std.specs.Prelude.{◌≡◌, ◌≤◌, ◌<◌, ◌+◌, ◌++◌, [], length, slice_index_or, slice_set, IfOk, OnOk};
 ghost use Rattle.std.specs.List.{insert, remove};
+ghost use Rattle.ordered_table.specs.Leading.{page_leading};
 
+use crate::leading_numbers::page_leading;
 use crate::row_lists::{exchange, put_in};
 use row_types::{R, Row};
 use std::alloc::Global;
 use std::marker::Model;
 
-/// Rows that stand together: at most 64, with reserved capacity for 64 from the start.
+/// Rows that stand together: at most 64, with reserved capacity for 64 from the start. The number that the
+/// first row begins with is kept beside them, so that a search among pages need not read their rows.
 #[derive(Debug, Drop)]
 pub(crate) struct Page {
     rows: Vec<Row>,
+    leading: Option<i64>,
 }
 
 impl Model for Page {
@@ -30,7 +34,10 @@ impl Page {
         ensures { IfOk result (λ page. page ≡ []) }
     {
         let rows = Vec::with_capacity(alloc, 64)?;
-        Ok(Page { rows })
+        Ok(Page {
+            rows,
+            leading: None,
+        })
     }
 
     /// A page of copies of the rows.
@@ -41,7 +48,8 @@ impl Page {
         for row in self.rows.as_slice() {
             rows.push(row.copy(alloc)?)?;
         }
-        Ok(Page { rows })
+        let leading = page_leading(rows.as_slice());
+        Ok(Page { rows, leading })
     }
 
     /// Moves the rows to the end of others.
@@ -60,6 +68,13 @@ impl Page {
         self.rows.len()
     }
 
+    /// The number that the first row begins with, if it does.
+    pub fn leading(&self) -> Option<i64>
+        ensures { result ≡ page_leading self.now }
+    {
+        self.leading
+    }
+
     pub fn rows(&self) -> &[Row]
         ensures value { result.now ≡ self.now }
         ensures most { length result.now ≤ 64 }
@@ -73,7 +88,9 @@ impl Page {
         ensures replaced { result ≡ slice_index_or self.old index result }
         ensures rows { self.new ≡ slice_set self.old index row }
     {
-        exchange(&mut self.rows, index, row)
+        let replaced = exchange(&mut self.rows, index, row);
+        self.leading = page_leading(self.rows.as_slice());
+        replaced
     }
 
     /// Puts a row in before another, where the page is not full.
@@ -82,7 +99,8 @@ impl Page {
         requires room { length self.old < 64 }
         ensures { self.new ≡ insert self.old index row }
     {
-        put_in(&mut self.rows, index, row)
+        put_in(&mut self.rows, index, row);
+        self.leading = page_leading(self.rows.as_slice());
     }
 
     /// Takes a row out and hands it back.
@@ -91,7 +109,9 @@ impl Page {
         ensures row { result ≡ slice_index_or self.old index result }
         ensures rows { self.new ≡ remove self.old index }
     {
-        self.rows.remove(index)
+        let row = self.rows.remove(index);
+        self.leading = page_leading(self.rows.as_slice());
+        row
     }
 
     /// Moves the rows from this number on into an empty page.
@@ -107,6 +127,8 @@ impl Page {
             };
             put_in(&mut other.rows, 0, row);
         }
+        self.leading = page_leading(self.rows.as_slice());
+        other.leading = page_leading(other.rows.as_slice());
     }
 
     /// Moves the upper half of a full page into an empty one, and puts a row into the half that it belongs to.
@@ -137,5 +159,7 @@ impl Page {
             Ok(()) => {}
             Err(_) => unreachable!(),
         }
+        self.leading = page_leading(self.rows.as_slice());
+        other.leading = page_leading(other.rows.as_slice());
     }
 }

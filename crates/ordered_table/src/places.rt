@@ -1,10 +1,12 @@
 ghost use Rattle.std.specs.Prelude.{◌≡◌, ◌↔◌, IsTrue, take, option_copied, option_map};
 ghost use Rattle.std.specs.List.{AllByRecursion};
-ghost use Rattle.row_types.specs.Order.{is_past_edge};
+ghost use Rattle.row_types.specs.Order.{key_cmp, is_past_edge};
 ghost use Rattle.row_types.specs.KeyRows.{AreOrdered, IsNotNull, rows_past, rows_before};
 ghost use Rattle.ordered_table.specs.Places.{IsCut, IsPlaced, is_past, is_there};
 
+use crate::leading_numbers::{leading, leading_order};
 use row_types::{Edge, Row, Value, compare_values};
+use std::cmp::Ordering;
 
 /// Where the row of a key stands, or would stand.
 #[derive(Clone, Copy, Debug, PartialEq, Eq)]
@@ -31,7 +33,7 @@ fn is_there(rows: &[Row], key_len: u8, key: &[Value], index: usize) -> bool
 {
     match rows.get(index) {
         None => false,
-        Some(row) => compare_values(key, key_values(row, key_len)).is_eq(),
+        Some(row) => key_order(key, row, key_len).is_eq(),
     }
 }
 
@@ -78,11 +80,25 @@ fn first_past(rows: &[Row], key_len: u8, key: &[Value], strictly: bool) -> usize
 pub(crate) fn is_behind(row: &Row, key_len: u8, key: &[Value], strictly: bool) -> bool
     ensures { result ≡ is_past strictly key.now (take key_len row.now) }
 {
-    let ordering = compare_values(key, key_values(row, key_len));
+    let ordering = key_order(key, row, key_len);
     if strictly {
         return ordering.is_lt();
     }
     ordering.is_le()
+}
+
+/// The order of a key and that of a row.
+#[tactic(auto, using(crate::proofs::LeadingLemmas::leading_decides))]
+fn key_order(key: &[Value], row: &Row, key_len: u8) -> Ordering
+    ensures { result ≡ key_cmp key.now (take key_len row.now) }
+{
+    if key_len > 0 {
+        let first = leading_order(leading(key), leading(row.as_slice()));
+        if first.is_ne() {
+            return first;
+        }
+    }
+    compare_values(key, key_values(row, key_len))
 }
 
 /// The values of a row's first columns, as far as it has them.

@@ -1,4 +1,4 @@
-ghost use Rattle.std.specs.Prelude.{◌≡◌, ◌<◌, ◌++◌, ◌^◌, ◌↔◌, IsTrue, IfOk, List, [], length, drop, slice_get, option_copied};
+ghost use Rattle.std.specs.Prelude.{◌≡◌, ◌<◌, ◌++◌, ◌^◌, ◌↔◌, IsTrue, IfOk, OnOk, List, [], length, drop, slice_get, option_copied};
 ghost use Rattle.ordered_table.specs.Pages.{flat};
 
 use crate::pages::Page;
@@ -86,14 +86,11 @@ impl<'a> RowsAhead<'a> {
     pub(crate) fn copies(self, alloc: Global) -> R<Rows>
         ensures { IfOk result (λ copies. copies ≡ self.entry) }
     {
-        let mut ahead = self;
-        let mut rows = Rows {
-            items: Vec::with_capacity(alloc, ahead.len())?,
-        };
-        while let Some(row) = ahead.next_row() {
-            rows.push(row.copy(alloc)?)?;
-        }
-        Ok(rows)
+        let mut items = Vec::with_capacity(alloc, self.len())?;
+        add_copies(&mut items, alloc, self.first)?;
+        add_page_copies(&mut items, alloc, self.pages)?;
+        add_copies(&mut items, alloc, self.last)?;
+        Ok(Rows { items })
     }
 
     /// Whether the same rows are to come.
@@ -111,6 +108,30 @@ impl<'a> RowsAhead<'a> {
         }
         theirs.is_empty()
     }
+}
+
+/// Puts copies of rows at the end of others.
+fn add_copies(items: &mut Vec<Row>, alloc: Global, rows: &[Row]) -> R<()>
+    ensures { OnOk result (items.new.items ≡ items.old.items ++ rows.now) }
+{
+    let mut rest = rows;
+    while let Some((row, more)) = rest.split_first() {
+        items.push(row.copy(alloc)?)?;
+        rest = more;
+    }
+    Ok(())
+}
+
+/// Puts copies of the rows of pages at the end of others.
+fn add_page_copies(items: &mut Vec<Row>, alloc: Global, pages: &[Page]) -> R<()>
+    ensures { OnOk result (items.new.items ≡ items.old.items ++ flat pages.now) }
+{
+    let mut rest = pages;
+    while let Some((page, more)) = rest.split_first() {
+        add_copies(items, alloc, page.rows())?;
+        rest = more;
+    }
+    Ok(())
 }
 
 /// How many rows pages have.

@@ -2,10 +2,10 @@ ghost use Rattle.std.specs.Prelude.{◌≡◌, ◌≤◌, ◌<◌, ◌+◌, ◌-
 ghost use Rattle.std.specs.List.{All, insert, remove};
 ghost use Rattle.row_types.specs.declared.values.Value.{Value as ColumnValue};
 ghost use Rattle.ordered_table.specs.Parts.{IsParted};
-ghost use Rattle.ordered_table.specs.Pages.{flat, ArePages, joined, settled_split, settled_loss, without_empty};
+ghost use Rattle.ordered_table.specs.Pages.{flat, ArePages, IsLastFull, joined, settled_split, settled_loss, without_empty};
 
 use crate::pages::Page;
-use row_types::{R, Row, Rows};
+use row_types::{Memory, R, Row, Rows};
 use std::alloc::Global;
 use std::marker::Model;
 
@@ -203,6 +203,41 @@ impl Store {
         self.settle_split(page);
     }
 
+    /// Puts a row after all others, into a page of its own where the last one is full. Only a new page takes
+    /// memory.
+    pub fn push(&mut self, row: Row) -> R<()>
+        requires sizes { ArePages 64 self.old.pages }
+        ensures rows { OnOk result (flat self.new.pages ≡ flat self.old.pages ++ row ∷ []) }
+        ensures sizes { ArePages 64 self.new.pages }
+    {
+        let count = self.pages.len();
+        if count == 0 {
+            return self.push_page(row);
+        }
+        let len = self.pages[count - 1].len();
+        if len >= 64 {
+            return self.push_page(row);
+        }
+        self.put_in(count - 1, len, row);
+        Ok(())
+    }
+
+    /// Puts a row into a page of its own, after all others, which are in full pages or in none.
+    fn push_page(&mut self, row: Row) -> R<()>
+        requires sizes { ArePages 64 self.old.pages }
+        requires full { IsLastFull self.old.pages }
+        ensures rows { OnOk result (flat self.new.pages ≡ flat self.old.pages ++ row ∷ []) }
+        ensures sizes { ArePages 64 self.new.pages }
+    {
+        self.grow()?;
+        let Some(mut page) = self.empties.pop() else {
+            return Err(Memory);
+        };
+        page.put_in(0, row);
+        give_page(&mut self.pages, page);
+        Ok(())
+    }
+
     /// Puts the first row into a page of its own.
     pub fn put_first(&mut self, row: Row)
         requires none { self.old.pages ≡ [] }
@@ -275,6 +310,19 @@ fn give(empties: &mut Vec<Page>, page: Page)
     ensures capacity { vec_capacity empties.old ≤ vec_capacity empties.new }
 {
     match empties.push(page) {
+        Ok(()) => {}
+        Err(_) => unreachable!(),
+    }
+}
+
+/// Puts a page after all others, where there is reserved capacity for it.
+fn give_page(pages: &mut Vec<Page>, page: Page)
+    requires { vec_len pages.old < vec_capacity pages.old }
+    ensures items { pages.new.items ≡ pages.old.items ++ page ∷ [] }
+    ensures len { vec_len pages.new ≡ vec_len pages.old + 1 }
+    ensures capacity { vec_capacity pages.old ≤ vec_capacity pages.new }
+{
+    match pages.push(page) {
         Ok(()) => {}
         Err(_) => unreachable!(),
     }

@@ -1,16 +1,23 @@
-ghost use Rattle.std.specs.Prelude.{◌≡◌, ◌≤◌, ◌<◌, ◌+◌, ◌-◌, ◌^◌, ◌++◌, ◌∷◌, ◌↔◌, [], length, take, option_copied, is_some, if◌then◌else◌, None, IsTrue, IfOk, IfErr, OnOk, OnErr};
+ghost use Rattle.std.specs.Prelude.{ℕ, ◌≡◌, ◌≤◌, ◌<◌, ◌+◌, ◌-◌, ◌^◌, ◌++◌, ◌∷◌, ◌↔◌, [], length, take, option_copied, is_some, if◌then◌else◌, None, IsTrue, IfOk, IfErr, OnOk, OnErr};
+ghost use Rattle.std.specs.List.{AllByRecursion, sum};
 ghost use Rattle.row_types.specs.KeyRows.{HasKey, AreOrdered, row_at, put_row, without_key, rows_in, rows_past, row_past, least_past, nth_past, greatest_before};
 ghost use Rattle.ordered_table.specs.TableView.{TableView};
+ghost use Rattle.ordered_table.specs.Pages.{NeighboursExceed};
 ghost use Rattle.ordered_table.specs.Room.{HasRoom};
 
 use crate::edge_search::{all_rows, row_before, rows_between, rows_from};
 use crate::key_places::{put_into, row_of, take_from};
+use crate::page_lengths::lengths_of;
 use crate::places::{has_no_null, key_of, key_values};
 use crate::rows_ahead::RowsAhead;
 use crate::store::Store;
 use row_types::{Edge, Key, Memory, R, Row, Rows, Span, Value};
 use std::alloc::Global;
 use std::marker::Model;
+
+/// How many rows a table may have, the spare ones among them: twice as many still fit into 64 bits, with
+/// what `has_room` adds.
+const MOST_ROWS: u64 = 4_611_686_018_427_387_904;
 
 /// A table: its rows by rising key, each key there once. Their keys are their first one or two values.
 /// A number of further rows, spare, can be put back without memory.
@@ -65,14 +72,22 @@ impl Table {
         requires ordered { AreOrdered key_len rows.now }
         ensures { IfOk result (λ table. table ≡ record { key_len = key_len; rows = rows.now; spare = 0 }) }
     {
-        let mut table = Table::new(alloc, key_len);
+        let count = rows.len() as u64;
+        if count >= MOST_ROWS {
+            return Err(Memory);
+        }
+        let mut store = Store::new(alloc);
         let mut rest = rows;
         while let Some((row, more)) = rest.split_first() {
-            put_last(&mut table, row.copy(alloc)?)?;
+            store.push(row.copy(alloc)?)?;
             rest = more;
         }
-        table.spare = 0;
-        Ok(table)
+        Ok(Table {
+            store,
+            key_len,
+            count,
+            spare: 0,
+        })
     }
 
     /// A table of the same rows; none are spare.
@@ -103,6 +118,17 @@ impl Table {
         ensures ordered { AreOrdered self.now.key_len self.now.rows }
     {
         self.count as usize
+    }
+
+    /// How many rows stand in each page, by rising key. Each page has 1 to 64, two neighbours have together
+    /// more than 64, and all together have the table's rows. For whoever wants to see how full the pages are.
+    pub fn page_lengths(&self, alloc: Global) -> R<Vec<usize>>
+        ensures sum { IfOk result (λ lengths. sum lengths.items ≡ length self.now.rows) }
+        ensures lengths { IfOk result (λ lengths. AllByRecursion (λ (n : ℕ). (1 ≤ n) × (n ≤ 64)) lengths.items) }
+        ensures neighbours { IfOk result (λ lengths. NeighboursExceed 64 lengths.items) }
+    {
+        let lengths = lengths_of(alloc, self.store.pages())?;
+        Ok(lengths)
     }
 
     pub fn is_empty(&self) -> bool
@@ -229,6 +255,9 @@ impl Table {
         ensures key_len { self.new.key_len ≡ self.old.key_len }
         ensures spare { self.old.spare ≤ self.new.spare }
     {
+        if self.spare_another() {
+            return Ok(self.put_spared(row));
+        }
         if self.get_at(key_values(&row, self.key_len)).is_some() {
             return Ok(self.put_back(row));
         }
@@ -264,7 +293,7 @@ impl Table {
         if rows <= self.spare {
             return Ok(());
         }
-        if rows >= 4611686018427387904 - self.count {
+        if rows >= MOST_ROWS - self.count {
             return Err(Memory);
         }
         make_room(&mut self.store, self.count, rows)?;
@@ -289,17 +318,39 @@ impl Table {
         }
         replaced
     }
-}
 
-/// Puts a row after all others.
-fn put_last(table: &mut Table, row: Row) -> R<()>
-    requires { AreOrdered table.old.key_len (table.old.rows ++ row ∷ []) }
-    ensures rows { OnOk result (table.new.rows ≡ table.old.rows ++ row ∷ []) }
-    ensures key_len { table.new.key_len ≡ table.old.key_len }
-{
-    match table.put(row) {
-        Ok(_) => Ok(()),
-        Err((_, memory)) => Err(memory),
+    /// Makes one more row spare where that takes no memory: whether it did.
+    fn spare_another(&mut self) -> bool
+        ensures spare { self.new.spare ≡ (if result then self.old.spare + 1 else self.old.spare) }
+        ensures rows { self.new.rows ≡ self.old.rows }
+        ensures key_len { self.new.key_len ≡ self.old.key_len }
+    {
+        let spare = self.spare + 1;
+        if spare >= MOST_ROWS - self.count {
+            return false;
+        }
+        if !has_room(&self.store, self.count, spare) {
+            return false;
+        }
+        self.spare = spare;
+        true
+    }
+
+    /// Puts a row at its key, and gives up one of the spare rows even where it replaced a row.
+    #[tactic(auto, using(crate::proofs::SizeLemmas::room_less))]
+    fn put_spared(&mut self, row: Row) -> Option<Row>
+        requires key { HasKey self.old.key_len row }
+        requires room { 1 ≤ self.old.spare }
+        ensures replaced { result ≡ row_at self.old.key_len (take self.old.key_len row) self.old.rows }
+        ensures rows { self.new.rows ≡ put_row self.old.key_len row self.old.rows }
+        ensures key_len { self.new.key_len ≡ self.old.key_len }
+        ensures spare { self.new.spare + 1 ≡ self.old.spare }
+    {
+        let replaced = self.put_back(row);
+        if replaced.is_some() {
+            self.spare -= 1;
+        }
+        replaced
     }
 }
 

@@ -1,4 +1,4 @@
-use Rattle.std.proofs.Common.{◌≡◌, ◌∙◌, ◌++◌, List, [], ◌∷◌, length, ap, sym, refl, append-nil, append_assoc, arith}
+use Rattle.std.proofs.Common.{◌≡◌, ◌∙◌, ◌++◌, List, [], ◌∷◌, length, ap, sym, refl, append-nil, append_assoc, arith, rules}
 use Rattle.std.specs.Prelude.{vec_len}
 use Rattle.row_types.specs.declared.values.Value.{Value}
 use Rattle.ordered_table.proofs.pages.Page.give_from.Goals as goal
@@ -23,12 +23,14 @@ pub invariant_of-self : goal.invariant_of-self
 invariant_of-self c = record {
   most = omega (arith, c.loop-self.invariant.sum, c.self.invariant.most);
   room = omega (arith, c.loop-self.invariant.kept, c.self.invariant.room);
+  leading = search rules;
 }
 
 pub invariant_of-other : goal.invariant_of-other
 invariant_of-other c = record {
   most = omega (arith, c.loop-self.invariant.sum, c.self.invariant.most);
   room = c.loop-self.invariant.room;
+  leading = search rules;
 }
 
 pub put_in-requires-clause-room : goal.put_in-requires-clause-room

@@ -4,7 +4,7 @@ use Rattle.row_types.specs.KeyRows.{Rows}
 use Rattle.ordered_table.specs.Places.{is_past}
 use Rattle.ordered_table.proofs.SearchLemmas.{not_below_none}
 use Rattle.ordered_table.proofs.AheadLemmas.{nil_first}
-use Rattle.ordered_table.proofs.page_search.is_page_behind.Goals as goal
+use Rattle.ordered_table.proofs.page_search.is_first_behind.Goals as goal
 
 pub returns-in-None : goal.returns-in-None
 returns-in-None c =
