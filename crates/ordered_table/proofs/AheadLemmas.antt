@@ -1,25 +1,21 @@
 -- Rows past an edge, before it and in a span, in parts: the rest of a page, whole pages, a part of one more.
-use Rattle.std.proofs.Common.{◌≡◌, ◌∙◌, ℕ, zero, suc, ◌+◌, ◌-◌, ◌^◌, ◌<◌, ◌≤◌, Bool, true, false, cond, None, Some, List, [], ◌∷◌, ◌++◌, length, take, drop, refl, ap, sym, subst, append_assoc, append-nil, length-append, arith}
+use Rattle.std.proofs.Common.{◌≡◌, ◌∙◌, ℕ, zero, suc, ◌+◌, ◌-◌, ◌^◌, ◌<◌, ◌≤◌, Bool, true, false, cond, None, List, [], ◌∷◌, ◌++◌, length, take, drop, refl, ap, sym, subst, append_assoc, append-nil, length-append, arith}
 use Rattle.std.specs.Prelude.{slice_get, slice_index_or, filter}
 use Rattle.std.specs.List.{AllByRecursion}
-use Rattle.std.specs.Ordering.{match_ordering}
-use Rattle.std.specs.declared.cmp.Ordering.{Ordering}
-use Rattle.std.specs.declared.cmp.Ordering.TheVariants.{Less}
 use Rattle.std.proofs.lemmas.List.{get_or_read, take_all, drop_all}
 use Rattle.row_types.specs.declared.edges.Edge.{Edge}
 use Rattle.row_types.specs.declared.edges.Edge.TheVariants.{Low, Before, After, High}
 use Rattle.row_types.specs.declared.edges.Span.{Span}
 use Rattle.row_types.specs.declared.values.Value.{Value}
-use Rattle.row_types.specs.Order.{key_cmp, is_past_edge, is_before_edge}
-use Rattle.row_types.proofs.OrderLemmas.{key_turns}
-use Rattle.row_types.specs.KeyRows.{Row, Rows, HasKey, AreOrdered, put_row, rows_in, rows_past, rows_before}
+use Rattle.row_types.specs.Order.{is_past_edge, is_before_edge}
+use Rattle.row_types.specs.KeyRows.{Row, Rows, AreOrdered, rows_in, rows_past, rows_before}
 use Rattle.row_types.proofs.OrderedRowLemmas.{filter_ordered}
 use Rattle.ordered_table.specs.Pages.{flat, ArePages, HasRow}
 use Rattle.ordered_table.specs.PageOf.{IsPageOf}
 use Rattle.ordered_table.specs.AheadParts.{ahead_rows, IsAhead}
 use Rattle.ordered_table.proofs.CutLemmas.{span_is, past_from, before_to, cut_low, cut_high}
 use Rattle.ordered_table.proofs.PageOfLemmas.{filter_append, flat_at, past_before_key, past_after_key, before_before_key, before_after_key}
-use Rattle.ordered_table.proofs.SearchLemmas.{ordered_left, ordered_right, all_right, page_some}
+use Rattle.ordered_table.proofs.SearchLemmas.{page_some}
 
 pub get_left : {X : Type 0} (xs ys : List X) (k : ℕ) → k < length xs → slice_get (xs ++ ys) k ≡ slice_get xs k
 get_left [] ys k within = absurd (omega arith)
@@ -40,12 +36,6 @@ last_right xs ys some =
     let e : length (xs ++ ys) - 1 - length xs ≡ length ys - 1 = omega arith in
     get_right xs ys (length (xs ++ ys) - 1) (omega arith) ∙ ap (slice_get ys) e
 
-pub ahead_length : (first : Rows) (pages : List Rows) (last : Rows) → length (ahead_rows first pages last) ≡ length first + length (flat pages) + length last
-ahead_length first pages last =
-    let a : length (first ++ (flat pages ++ last)) ≡ length first + length (flat pages ++ last) = length-append first (flat pages ++ last) in
-    let b : length (flat pages ++ last) ≡ length (flat pages) + length last = length-append (flat pages) last in
-    omega arith
-
 -- and that of the first, where the second has none
 pub last_left : {X : Type 0} (xs : List X) → slice_get (xs ++ []) (length (xs ++ []) - 1) ≡ slice_get xs (length xs - 1)
 last_left xs = ap (λ (zs : List _). slice_get zs (length zs - 1)) (append-nil xs)
@@ -62,11 +52,6 @@ last_page (suc n) (page ∷ pages) most some =
     let m : length (slice_index_or pages n [] ++ flat (drop (suc n) pages)) ≡ length (slice_index_or pages n []) + length (flat (drop (suc n) pages)) =
     length-append (slice_index_or pages n []) (flat (drop (suc n) pages)) in
     last_right page (flat pages) (omega arith) ∙ last_page n pages (omega arith) some
-
-pub ahead_none : (pages : List Rows) (last : Rows) → AllByRecursion HasRow pages → flat pages ++ last ≡ [] → pages ≡ []
-ahead_none [] last full none = refl
-ahead_none ([] ∷ pages) last full none = absurd full.0
-ahead_none ((row ∷ rows) ∷ pages) last full none = cc
 
 full_behind : (before : ℕ) (pages : List Rows) → before ≤ 64 → ArePages before pages → AllByRecursion HasRow pages
 full_behind before [] most are = tt
@@ -195,28 +180,3 @@ before_at_after key_len edge key slice n pages is same of =
 pub nil_first : {X : Type 0} (xs : List X) → slice_get xs 0 ≡ None → xs ≡ []
 nil_first [] none = refl
 nil_first (x ∷ xs) none = cc
-
-pub some_first : {X : Type 0} (xs : List X) (x : X) → slice_get xs 0 ≡ Some x → xs ≡ [] → ⊥
-some_first [] x some none = cc
-some_first (y ∷ xs) x some none = cc
-
--- a row above all others has its key, and is put in after them
-pub last_has_key : (key_len : ℕ) (row : Row) (rows : Rows) → AreOrdered key_len (rows ++ row ∷ []) → HasKey key_len row
-last_has_key key_len row rows ordered = (ordered_right key_len rows (row ∷ []) ordered).0
-
-pub put_end : (key_len : ℕ) (row : Row) (rows : Rows) → AreOrdered key_len (rows ++ row ∷ []) → put_row key_len row rows ≡ rows ++ row ∷ []
-put_end key_len row [] ordered = refl
-put_end key_len row (other ∷ others) ordered =
-    let below : key_cmp (take key_len other) (take key_len row) ≡ Less =
-    (all_right (λ (third : Row). key_cmp (take key_len other) (take key_len third) ≡ Less) others (row ∷ []) ordered.1).0 in
-    ap (λ (o : Ordering). match_ordering o (row ∷ other ∷ others) (row ∷ others) (other ∷ put_row key_len row others))
-    (key_turns (take key_len other) (take key_len row) below)
-    ∙ ap (λ (rows : Rows). other ∷ rows) (put_end key_len row others ordered.2)
-
--- rows that were put in one by one rise with the next one
-pub front_ordered : (n key_len : ℕ) (rows put rest : Rows) (row copy : Row) (more : Rows) → n ≡ key_len → put ++ rest ≡ rows → rest ≡ row ∷ more → copy ≡ row
-    → AreOrdered key_len rows → AreOrdered n (put ++ copy ∷ [])
-front_ordered n key_len rows put rest row copy more same parts first is ordered =
-    let all : put ++ copy ∷ more ≡ rows = ap (λ (r : Row). put ++ r ∷ more) is ∙ ap (λ (rs : Rows). put ++ rs) (sym first) ∙ parts in
-    ordered_left n (put ++ copy ∷ []) more
-    (subst (AreOrdered n) (sym (append_assoc put (copy ∷ []) more ∙ all)) (subst (λ (k : ℕ). AreOrdered k rows) (sym same) ordered))

@@ -4,12 +4,12 @@ use Rattle.std.specs.Prelude.{slice_index_or, filter, ◌&&◌}
 use Rattle.std.specs.List.{AllByRecursion}
 use Rattle.std.specs.List.Sorted.{IsPartitionedBy, IsPartitionPoint}
 use Rattle.std.proofs.lemmas.List.{get_or_default}
-use Rattle.std.specs.Ordering.{is_le, is_lt, ordering_then}
+use Rattle.std.specs.Ordering.{is_le, is_lt}
 use Rattle.std.specs.declared.cmp.Ordering.{Ordering}
 use Rattle.std.specs.declared.cmp.Ordering.TheVariants.{Less, Equal, Greater}
 use Rattle.row_types.specs.declared.values.Value.{Value}
 use Rattle.row_types.specs.declared.edges.Edge.{Edge}
-use Rattle.row_types.specs.declared.edges.Edge.TheVariants.{Low, Before, After, High}
+use Rattle.row_types.specs.declared.edges.Edge.TheVariants.{Low, High}
 use Rattle.row_types.specs.declared.edges.Span.{Span}
 use Rattle.row_types.specs.Order.{key_cmp, is_past_edge, is_before_edge, has}
 use Rattle.row_types.proofs.OrderLemmas.{key_at_most, key_below}
@@ -79,33 +79,11 @@ cut_at_point key_len strictly key rows place most point = record {
   behind = λ k h w. turned_true (is_past strictly key (key_at key_len rows k)) (point.1 k [] h w);
 }
 
--- equal tests cut at one place
-cut_same : (key_len : ℕ) (p q : List Value → Bool) (rows : List (List Value)) (place : ℕ) → ((key : List Value) → p key ≡ q key)
-    → IsCut key_len p rows place → IsCut key_len q rows place
-cut_same key_len p q rows place same cut = record {
-  within = cut.within;
-  before = λ k h. sym (same (key_at key_len rows k)) ∙ cut.before k h;
-  behind = λ k h w. sym (same (key_at key_len rows k)) ∙ cut.behind k h w;
-}
-
-after_is : (o : Ordering) → is_lt o ≡ is_le (ordering_then o Greater)
-after_is Less = refl
-after_is Equal = refl
-after_is Greater = refl
-
 pub cut_low : (key_len : ℕ) (rows : List (List Value)) → IsCut key_len (is_past_edge Low) rows 0
 cut_low key_len rows = record { within = omega arith; before = λ k h. absurd (omega arith); behind = λ k h w. refl }
 
 pub cut_high : (key_len : ℕ) (rows : List (List Value)) → IsCut key_len (is_past_edge High) rows (length rows)
 cut_high key_len rows = record { within = omega arith; before = λ k h. refl; behind = λ k h w. absurd (omega arith) }
-
-pub cut_before : (key_len : ℕ) (key : List Value) (rows : List (List Value)) (place : ℕ)
-    → IsCut key_len (is_past false key) rows place → IsCut key_len (is_past_edge (Before key)) rows place
-cut_before key_len key rows place = cut_same key_len (is_past false key) (is_past_edge (Before key)) rows place (λ other. refl)
-
-pub cut_after : (key_len : ℕ) (key : List Value) (rows : List (List Value)) (place : ℕ)
-    → IsCut key_len (is_past true key) rows place → IsCut key_len (is_past_edge (After key)) rows place
-cut_after key_len key rows place = cut_same key_len (is_past true key) (is_past_edge (After key)) rows place (λ other. after_is (key_cmp key other))
 
 -- a cut of all rows but the first, where that one fails the test
 pub cut_rest : (key_len : ℕ) (test : List Value → Bool) (row : List Value) (rows : List (List Value)) (place : ℕ)

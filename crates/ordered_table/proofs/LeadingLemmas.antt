@@ -1,5 +1,5 @@
 -- Different leading numbers give the order of keys.
-use Rattle.std.proofs.Common.{◌≡◌, ◌∙◌, ℕ, zero, suc, ℤ, ◌≤◌, true, false, Option, None, Some, List, [], ◌∷◌, take, refl, ap, arith}
+use Rattle.std.proofs.Common.{◌≡◌, ◌∙◌, ℕ, zero, suc, ℤ, ◌≤◌, true, Option, None, Some, List, [], ◌∷◌, take, refl, ap, arith}
 use Rattle.std.specs.Prelude.{slice_index_or}
 use Rattle.std.specs.Ordering.{is_ne, is_lt, ordering_then}
 use Rattle.std.specs.declared.cmp.Ordering.{Ordering}

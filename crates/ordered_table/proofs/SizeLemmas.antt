@@ -1,5 +1,5 @@
 -- Pages keep their sizes, and pages together keep their rows.
-use Rattle.std.proofs.Common.{◌≡◌, ◌∙◌, ℕ, zero, suc, ◌+◌, ◌*◌, ◌/◌, ◌<◌, ◌≤◌, Bool, true, false, cond, List, [], ◌∷◌, ◌++◌, length, refl, ap, sym, subst, append_assoc, length-append, inl, inr, arith}
+use Rattle.std.proofs.Common.{◌≡◌, ◌∙◌, ℕ, zero, suc, ◌+◌, ◌*◌, ◌<◌, ◌≤◌, Bool, true, false, cond, List, [], ◌∷◌, ◌++◌, length, refl, ap, sym, subst, append_assoc, length-append, inl, inr, arith}
 use Rattle.std.specs.Prelude.{slice_index_or, slice_set, nat_le}
 use Rattle.std.specs.List.{remove}
 use Rattle.std.proofs.lemmas.List.{get_or_default}
@@ -90,19 +90,6 @@ joined_are (suc n) before (page ∷ pages) are = (are.0, are.1, joined_are n (le
 joined_are zero before (page ∷ []) are = are
 joined_are zero before (page ∷ next ∷ pages) are = joined_are_at (nat_le (length page + length next) 64) before page next pages refl are
 
--- joining nothing keeps the pages
-joined_kept_at : {X : Type 0} (small : Bool) (before : ℕ) (page next : List X) (pages : List (List X)) → nat_le (length page + length next) 64 ≡ small
-    → ArePages before (page ∷ next ∷ pages)
-    → cond small ((page ++ next) ∷ pages) (page ∷ next ∷ pages) ≡ page ∷ next ∷ pages
-joined_kept_at true before page next pages is are = let a : 64 < length page + length next = are.2.0 in absurd (grind arith)
-joined_kept_at false before page next pages is are = refl
-
-pub joined_kept : {X : Type 0} (n before : ℕ) (pages : List (List X)) → ArePages before pages → joined n pages ≡ pages
-joined_kept n before [] are = refl
-joined_kept (suc n) before (page ∷ pages) are = ap (λ (rest : List (List _)). page ∷ rest) (joined_kept n (length page) pages are.2)
-joined_kept zero before (page ∷ []) are = refl
-joined_kept zero before (page ∷ next ∷ pages) are = joined_kept_at (nat_le (length page + length next) 64) before page next pages refl are
-
 pub loosened : {X : Type 0} (before : ℕ) (pages : List (List X)) → ArePages before pages → AreLoose pages
 loosened before [] are = tt
 loosened before (page ∷ pages) are = (are.1, are.2)
@@ -192,27 +179,6 @@ pub room_for_split : (rows spare pages empties : ℕ) → HasRoom rows spare pag
 room_for_split rows spare pages empties (inl each) some few = omega arith
 room_for_split rows spare pages empties (inr all) some few = omega arith
 
--- putting a row back takes one spare row, and at most one empty page
-pub room_put_back : (rows spare pages empties new_pages new_empties : ℕ) → HasRoom rows (suc spare) pages empties
-    → new_pages + new_empties ≡ pages + empties → empties ≤ suc new_empties → HasRoom (suc rows) spare new_pages new_empties
-room_put_back rows spare pages empties new_pages new_empties (inl each) same less = inl (omega arith)
-room_put_back rows spare pages empties new_pages new_empties (inr all) same less = inr (omega arith)
-
--- taking a row away frees pages, or none
-pub room_remove : (rows spare pages empties new_pages new_empties : ℕ) → HasRoom (suc rows) spare pages empties
-    → new_pages + new_empties ≡ pages + empties → empties ≤ new_empties → HasRoom rows spare new_pages new_empties
-room_remove rows spare pages empties new_pages new_empties (inl each) same more = inl (omega arith)
-room_remove rows spare pages empties new_pages new_empties (inr all) same more = inr (omega arith)
-
--- one page more is reserved capacity for one row more
-pub room_more : (rows spare pages empties : ℕ) → HasRoom rows spare pages empties → HasRoom rows (suc spare) pages (suc empties)
-room_more rows spare pages empties (inl each) = inl (omega arith)
-room_more rows spare pages empties (inr all) = inr (omega arith)
-
--- nothing is needed for no rows
-pub room_none : (rows pages empties : ℕ) → HasRoom rows 0 pages empties
-room_none rows pages empties = inl (omega arith)
-
 -- joining, by the writes that do it
 pub joined_small : {X : Type 0} (n : ℕ) (page next : List X) (pages : List (List X)) → suc n < length pages
     → page ≡ slice_index_or pages n page → next ≡ slice_index_or pages (suc n) next → length page + length next ≤ 64
@@ -273,19 +239,6 @@ pub page_most : {X : Type 0} (n before : ℕ) (pages : List (List X)) → ArePag
 page_most n before [] are within = absurd (omega arith)
 page_most zero before (page ∷ pages) are within = are.1
 page_most (suc n) before (page ∷ pages) are within = page_most n (length page) pages are.2 (omega arith)
-
--- more empty pages are reserved capacity too
-pub room_grows : (rows spare pages empties more : ℕ) → HasRoom rows spare pages empties → empties ≤ more → HasRoom rows spare pages more
-room_grows rows spare pages empties more (inl each) le = inl (omega arith)
-room_grows rows spare pages empties more (inr all) le = inr (omega arith)
-
--- the test for reserved capacity
-pub room_is : (rows spare pages empties : ℕ) → empties < spare → (2 * (rows + spare) + 127) / 65 ≤ pages + empties → HasRoom rows spare pages empties
-room_is rows spare pages empties few enough = inr (omega arith)
-
-pub room_is_not : (rows spare pages empties : ℕ) → empties < spare → HasRoom rows spare pages empties → (2 * (rows + spare) + 127) / 65 ≤ pages + empties
-room_is_not rows spare pages empties few (inl each) = absurd (omega arith)
-room_is_not rows spare pages empties few (inr all) = omega arith
 
 -- reserved capacity after a change
 pub room_to : (rows spare pages empties new_rows new_spare new_pages new_empties : ℕ) → HasRoom rows spare pages empties → new_pages + new_empties ≡ pages + empties

@@ -1,4 +1,4 @@
-ghost use Rattle.std.specs.Prelude.{◌≡◌, ◌<◌, ◌-◌, ◌++◌, ◌^◌, suc, List, [], length, take, drop, slice_index_or, slice_get, option_copied};
+ghost use Rattle.std.specs.Prelude.{◌≡◌, ◌<◌, ◌-◌, ◌++◌, ◌^◌, suc, [], length, take, drop, slice_index_or, slice_get, option_copied};
 ghost use Rattle.std.specs.List.{AllByRecursion};
 ghost use Rattle.row_types.specs.KeyRows.{AreOrdered, rows_in, rows_past, rows_before};
 ghost use Rattle.ordered_table.specs.Pages.{flat, ArePages, HasRow};

@@ -1,4 +1,4 @@
-ghost use Rattle.std.specs.Prelude.{◌≡◌, ◌≤◌, ◌<◌, ◌+◌, ◌-◌, ◌^◌, ◌++◌, suc, [], ◌∷◌, List, length, take, drop, slice_index_or, slice_set, IfOk, OnOk, OnErr, vec_len, vec_capacity};
+ghost use Rattle.std.specs.Prelude.{◌≡◌, ◌≤◌, ◌<◌, ◌+◌, ◌-◌, ◌^◌, ◌++◌, [], ◌∷◌, List, length, take, slice_index_or, slice_set, IfOk, OnOk, OnErr, vec_len, vec_capacity};
 ghost use Rattle.std.specs.List.{All, insert, remove};
 ghost use Rattle.row_types.specs.declared.values.Value.{Value as ColumnValue};
 ghost use Rattle.ordered_table.specs.Parts.{IsParted};

@@ -1,4 +1,4 @@
-ghost use Rattle.std.specs.Prelude.{ℕ, ◌≡◌, ◌≤◌, ◌<◌, ◌+◌, ◌-◌, ◌^◌, ◌++◌, ◌∷◌, ◌↔◌, [], length, take, option_copied, is_some, if◌then◌else◌, None, IsTrue, IfOk, IfErr, OnOk, OnErr};
+ghost use Rattle.std.specs.Prelude.{ℕ, ◌≡◌, ◌≤◌, ◌<◌, ◌+◌, ◌-◌, ◌^◌, ◌↔◌, [], length, take, option_copied, is_some, if◌then◌else◌, None, IsTrue, IfOk, IfErr, OnOk, OnErr};
 ghost use Rattle.std.specs.List.{AllByRecursion, sum};
 ghost use Rattle.row_types.specs.KeyRows.{HasKey, AreOrdered, row_at, put_row, without_key, rows_in, rows_past, row_past, least_past, nth_past, greatest_before};
 ghost use Rattle.ordered_table.specs.TableView.{TableView};

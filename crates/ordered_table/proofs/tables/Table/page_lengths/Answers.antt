@@ -1,4 +1,4 @@
-use Rattle.std.proofs.Common.{◌≡◌, ◌∙◌, List, length, map, ap}
+use Rattle.std.proofs.Common.{◌∙◌, length, map, ap}
 use Rattle.row_types.specs.KeyRows.{Rows}
 use Rattle.ordered_table.specs.TableView.{TableView}
 use Rattle.ordered_table.proofs.LengthLemmas.{sum_is, are_sized, do_exceed}
