@@ -131,7 +131,7 @@ record Past (n k : ℕ) : Type 0 where
 past : (n k : ℕ) → k < n → Past n k
 past n k h = record { more = n - (k + 1); are = omega arith }
 
-take_all : (n : ℕ) (xs : List Token) → length xs ≤ n → take n xs ≡ xs
+pub take_all : (n : ℕ) (xs : List Token) → length xs ≤ n → take n xs ≡ xs
 take_all zero [] h = refl
 take_all zero (x ∷ xs) h = absurd (omega arith)
 take_all (suc n) [] h = refl
@@ -372,7 +372,7 @@ row_cuts s fs (o ∷ ts) (suc k) r f h = by_first ts (one_slot s (g.is_open o.wo
     by_first (a ∷ us) p = by_comma a us k p.0 (one_slot s (g.first_is s a.word) (g.CommaSlot ∷ g.after_comma) us p.1)
 
 -- a whole parenthesis is all of it
-cut_all : (s : Setting) (n : ℕ) (c : Bool) (tree : Shape) (ends : Bool) (k : ℕ) → IsAt s n c tree → len tree ≤ k → cut ends k tree ≡ whole tree
+pub cut_all : (s : Setting) (n : ℕ) (c : Bool) (tree : Shape) (ends : Bool) (k : ℕ) → IsAt s n c tree → len tree ≤ k → cut ends k tree ≡ whole tree
 cut_all s n c (g.Leaf t) ends k h l = ap (λ (b : Bool). if b then Leaf t else Gap) (lt_is 0 k (omega arith))
 cut_all s n c (g.Prefix t y) ends zero h l = absurd (omega arith)
 cut_all s n c (g.Prefix t y) ends (suc k) h l = cut_prefix ends k t y ∙ ap (Prefix t) (cut_all s (g.prefix_level t.word) (g.wants t.word) y ends k h.3 (omega arith))

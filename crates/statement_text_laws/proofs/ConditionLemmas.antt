@@ -61,7 +61,7 @@ null_read schema expr negated i =
 
 -- ---- row comparisons
 
-same_name : (name : List ℕ) → same_bytes name name ≡ true
+pub same_name : (name : List ℕ) → same_bytes name name ≡ true
 same_name [] = refl
 same_name (x ∷ xs) = two (x == x) (same_bytes xs xs) (equal x) (same_name xs)
   where

@@ -1,0 +1,11 @@
+pub mod PlacedLemmas
+pub mod NameLemmas
+pub mod KindLemmas
+pub mod CondKindLemmas
+pub mod DeepLemmas
+pub mod ReadLemmas
+pub mod ValueReadLemmas
+pub mod StatementReadLemmas
+pub mod CrcLemmas
+pub mod ToolReadLemmas
+pub mod RoundTripLemmas
