@@ -115,25 +115,28 @@ sorts true false e = cc
 sorts false true e = cc
 sorts false false e = refl
 
-ready_true : (g : Setting) (fs : Stack) → takes_condition g fs ≡ true → AreFrames g fs → least fs ≤ 4
-ready_true g [] e h = omega arith
-ready_true g (Before t ∷ fs) e h = not_level t.word e
+not_least : (g : Setting) (fs : Stack) → takes_condition g fs ≡ true → AreFrames g fs → least fs ≤ 3
+not_least g [] e h = omega arith
+not_least g (Before t ∷ fs) e h = not_level t.word e
   where
-    not_level : (u : Word) → wants u ≡ true → prefix_level u ≤ 4
+    not_level : (u : Word) → wants u ≡ true → prefix_level u ≤ 3
     not_level w.Not e = omega arith
     not_level w.Or e = omega arith
     not_level w.And e = omega arith
     not_level _ e = cc
-ready_true g (Behind l t ∷ fs) e h = and_level t.word e
+not_least g (Behind l t ∷ fs) e h = and_level t.word e
   where
-    and_level : (u : Word) → wants u ≡ true → suc (level u) ≤ 4
+    and_level : (u : Word) → wants u ≡ true → suc (level u) ≤ 3
     and_level w.Not e = omega arith
     and_level w.Or e = omega arith
     and_level w.And e = omega arith
     and_level _ e = cc
-ready_true g (Low l t ∷ fs) e h = cc
-ready_true g (High v b l a ∷ fs) e h = cc
-ready_true g (Opened o b ∷ fs) e h = omega arith
+not_least g (Low l t ∷ fs) e h = cc
+not_least g (High v b l a ∷ fs) e h = cc
+not_least g (Opened o b ∷ fs) e h = omega arith
+
+ready_true : (g : Setting) (fs : Stack) → takes_condition g fs ≡ true → AreFrames g fs → least fs ≤ 4
+ready_true g fs e h = let i = not_least g fs e h in omega arith
 
 abbrev pub Fits : Setting → Stack → Bool → Shape → Type 0
 Fits g [] c x = ⊤
@@ -401,26 +404,6 @@ most_least (Behind x t ∷ fs) = level_most t.word
 most_least (Low x t ∷ fs) = omega arith
 most_least (High v b x a ∷ fs) = omega arith
 most_least (Opened o b ∷ fs) = omega arith
-
-not_least : (g : Setting) (fs : Stack) → takes_condition g fs ≡ true → AreFrames g fs → least fs ≤ 3
-not_least g [] e h = omega arith
-not_least g (Before t ∷ fs) e h = not_level t.word e
-  where
-    not_level : (u : Word) → wants u ≡ true → prefix_level u ≤ 3
-    not_level w.Not e = omega arith
-    not_level w.Or e = omega arith
-    not_level w.And e = omega arith
-    not_level _ e = cc
-not_least g (Behind l t ∷ fs) e h = and_level t.word e
-  where
-    and_level : (u : Word) → wants u ≡ true → suc (level u) ≤ 3
-    and_level w.Not e = omega arith
-    and_level w.Or e = omega arith
-    and_level w.And e = omega arith
-    and_level _ e = cc
-not_least g (Low l t ∷ fs) e h = cc
-not_least g (High v b l a ∷ fs) e h = cc
-not_least g (Opened o b ∷ fs) e h = omega arith
 
 -- an operand is due
 begun_sound : (g : Setting) (u : Word) (ts : List Token) (fs : Stack) (t : Token) (next : State Shape) → t.word ≡ u → AreFrames g fs × (under fs ≡ ts) × Plain fs (Leaf t) → begun g shapes u fs t ≡ Some next → After g (ts ++ (t ∷ [])) next

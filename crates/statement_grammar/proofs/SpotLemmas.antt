@@ -28,95 +28,13 @@ terminates g h t _ e = cc
 
 -- where a single token may stand, no tree is due
 pub no_tree : (spot next : Spot) (u : Word) → one spot u ≡ Some next → tree_at spot ≡ None
-no_tree StatementDue next u e = refl
-no_tree IntoDue next u e = refl
-no_tree IntoTable next u e = refl
-no_tree ValuesDue next u e = refl
-no_tree (OpenDue of) next u e = refl
-no_tree (LiteralDue of) next u e = refl
-no_tree (LiteralEnds of) next u e = refl
-no_tree (DigitsDue of) next u e = refl
-no_tree FromDue next u e = refl
-no_tree DeleteTable next u e = refl
-no_tree WhereDue next u e = refl
 no_tree CondDue next (w.Name a) e = cc
-no_tree CondDue next (w.Number a) e = cc
-no_tree CondDue next (w.Text a) e = cc
-no_tree CondDue next w.Null e = cc
-no_tree CondDue next (w.Math a) e = cc
-no_tree CondDue next (w.Compare a) e = cc
-no_tree CondDue next w.And e = cc
-no_tree CondDue next w.Or e = cc
-no_tree CondDue next w.Not e = cc
-no_tree CondDue next w.Is e = cc
-no_tree CondDue next w.Between e = cc
-no_tree CondDue next w.Open e = cc
-no_tree CondDue next w.Close e = cc
-no_tree CondDue next w.Comma e = cc
-no_tree CondDue next w.Semicolon e = cc
-no_tree CondDue next (w.Keyword a) e = cc
-no_tree CondEnds next u e = refl
-no_tree UpdateTable next u e = refl
-no_tree SetDue next u e = refl
-no_tree ColumnDue next u e = refl
-no_tree EqualsDue next u e = refl
+no_tree CondDue next _ e = cc
 no_tree ExprDue next (w.Name a) e = cc
-no_tree ExprDue next (w.Number a) e = cc
-no_tree ExprDue next (w.Text a) e = cc
-no_tree ExprDue next w.Null e = cc
-no_tree ExprDue next (w.Math a) e = cc
-no_tree ExprDue next (w.Compare a) e = cc
-no_tree ExprDue next w.And e = cc
-no_tree ExprDue next w.Or e = cc
-no_tree ExprDue next w.Not e = cc
-no_tree ExprDue next w.Is e = cc
-no_tree ExprDue next w.Between e = cc
-no_tree ExprDue next w.Open e = cc
-no_tree ExprDue next w.Close e = cc
-no_tree ExprDue next w.Comma e = cc
-no_tree ExprDue next w.Semicolon e = cc
-no_tree ExprDue next (w.Keyword a) e = cc
-no_tree SetEnds next u e = refl
-no_tree StarDue next u e = refl
-no_tree SelectFrom next u e = refl
-no_tree SelectTable next u e = refl
-no_tree SelectWhere next u e = refl
+no_tree ExprDue next _ e = cc
 no_tree SelectCond next (w.Name a) e = cc
-no_tree SelectCond next (w.Number a) e = cc
-no_tree SelectCond next (w.Text a) e = cc
-no_tree SelectCond next w.Null e = cc
-no_tree SelectCond next (w.Math a) e = cc
-no_tree SelectCond next (w.Compare a) e = cc
-no_tree SelectCond next w.And e = cc
-no_tree SelectCond next w.Or e = cc
-no_tree SelectCond next w.Not e = cc
-no_tree SelectCond next w.Is e = cc
-no_tree SelectCond next w.Between e = cc
-no_tree SelectCond next w.Open e = cc
-no_tree SelectCond next w.Close e = cc
-no_tree SelectCond next w.Comma e = cc
-no_tree SelectCond next w.Semicolon e = cc
-no_tree SelectCond next (w.Keyword a) e = cc
-no_tree LockDue next u e = refl
-no_tree ForDue next u e = refl
-no_tree InDue next u e = refl
-no_tree ShareDue next u e = refl
-no_tree ModeDue next u e = refl
-no_tree (ChunkTable tool) next u e = refl
-no_tree (ChunkDue tool) next u e = refl
-no_tree (ChunkNumber tool) next u e = refl
-no_tree EdgeFrom next u e = refl
-no_tree (EdgeDue end) next u e = refl
-no_tree EdgeTo next u e = refl
-no_tree UsingDue next u e = refl
-no_tree KindDue next u e = refl
-no_tree CountDue next u e = refl
-no_tree CountNumber next u e = refl
-no_tree CrcDue next u e = refl
-no_tree CrcText next u e = refl
-no_tree ClearTable next u e = refl
-no_tree EndDue next u e = refl
-no_tree NothingDue next u e = refl
+no_tree SelectCond next _ e = cc
+no_tree _ next u e = refl
 
 -- what stands behind a tree ends it, and no tree is due there
 pub record EndsTree (next : Spot) : Type 0 where
@@ -124,104 +42,25 @@ pub record EndsTree (next : Spot) : Type 0 where
   pub none : tree_at next ≡ None
 
 words_CondEnds : (u : Word) (after : Spot) → one CondEnds u ≡ Some after → is_terminator u ≡ true
-words_CondEnds (w.Name a) after e = cc
-words_CondEnds (w.Number a) after e = cc
-words_CondEnds (w.Text a) after e = cc
-words_CondEnds w.Null after e = cc
-words_CondEnds (w.Math a) after e = cc
-words_CondEnds (w.Compare a) after e = cc
-words_CondEnds w.And after e = cc
-words_CondEnds w.Or after e = cc
-words_CondEnds w.Not after e = cc
-words_CondEnds w.Is after e = cc
-words_CondEnds w.Between after e = cc
-words_CondEnds w.Open after e = cc
-words_CondEnds w.Close after e = cc
-words_CondEnds w.Comma after e = cc
 words_CondEnds w.Semicolon after e = refl
 words_CondEnds (w.Keyword a) after e = refl
+words_CondEnds _ after e = cc
 
 words_SetEnds : (u : Word) (after : Spot) → one SetEnds u ≡ Some after → is_terminator u ≡ true
-words_SetEnds (w.Name a) after e = cc
-words_SetEnds (w.Number a) after e = cc
-words_SetEnds (w.Text a) after e = cc
-words_SetEnds w.Null after e = cc
-words_SetEnds (w.Math a) after e = cc
-words_SetEnds (w.Compare a) after e = cc
-words_SetEnds w.And after e = cc
-words_SetEnds w.Or after e = cc
-words_SetEnds w.Not after e = cc
-words_SetEnds w.Is after e = cc
-words_SetEnds w.Between after e = cc
-words_SetEnds w.Open after e = cc
-words_SetEnds w.Close after e = cc
 words_SetEnds w.Comma after e = refl
 words_SetEnds w.Semicolon after e = refl
 words_SetEnds (w.Keyword a) after e = refl
+words_SetEnds _ after e = cc
 
 words_LockDue : (u : Word) (after : Spot) → one LockDue u ≡ Some after → is_terminator u ≡ true
-words_LockDue (w.Name a) after e = cc
-words_LockDue (w.Number a) after e = cc
-words_LockDue (w.Text a) after e = cc
-words_LockDue w.Null after e = cc
-words_LockDue (w.Math a) after e = cc
-words_LockDue (w.Compare a) after e = cc
-words_LockDue w.And after e = cc
-words_LockDue w.Or after e = cc
-words_LockDue w.Not after e = cc
-words_LockDue w.Is after e = cc
-words_LockDue w.Between after e = cc
-words_LockDue w.Open after e = cc
-words_LockDue w.Close after e = cc
-words_LockDue w.Comma after e = cc
-words_LockDue w.Semicolon after e = cc
 words_LockDue (w.Keyword a) after e = refl
+words_LockDue _ after e = cc
 
 pub ends_tree : (spot next : Spot) (base : Bool) → tree_at spot ≡ Some (base, next) → EndsTree next
-ends_tree StatementDue next base e = cc
-ends_tree IntoDue next base e = cc
-ends_tree IntoTable next base e = cc
-ends_tree ValuesDue next base e = cc
-ends_tree (OpenDue of) next base e = cc
-ends_tree (LiteralDue of) next base e = cc
-ends_tree (LiteralEnds of) next base e = cc
-ends_tree (DigitsDue of) next base e = cc
-ends_tree FromDue next base e = cc
-ends_tree DeleteTable next base e = cc
-ends_tree WhereDue next base e = cc
 ends_tree CondDue next base e = let f : (true, CondEnds) ≡ (base, next) = some_is (true, CondEnds) (base, next) e in let n : CondEnds ≡ next = ap (λ (p : Bool × Spot). p.1) f in subst EndsTree n (record { words = words_CondEnds; none = refl })
-ends_tree CondEnds next base e = cc
-ends_tree UpdateTable next base e = cc
-ends_tree SetDue next base e = cc
-ends_tree ColumnDue next base e = cc
-ends_tree EqualsDue next base e = cc
 ends_tree ExprDue next base e = let f : (false, SetEnds) ≡ (base, next) = some_is (false, SetEnds) (base, next) e in let n : SetEnds ≡ next = ap (λ (p : Bool × Spot). p.1) f in subst EndsTree n (record { words = words_SetEnds; none = refl })
-ends_tree SetEnds next base e = cc
-ends_tree StarDue next base e = cc
-ends_tree SelectFrom next base e = cc
-ends_tree SelectTable next base e = cc
-ends_tree SelectWhere next base e = cc
 ends_tree SelectCond next base e = let f : (true, LockDue) ≡ (base, next) = some_is (true, LockDue) (base, next) e in let n : LockDue ≡ next = ap (λ (p : Bool × Spot). p.1) f in subst EndsTree n (record { words = words_LockDue; none = refl })
-ends_tree LockDue next base e = cc
-ends_tree ForDue next base e = cc
-ends_tree InDue next base e = cc
-ends_tree ShareDue next base e = cc
-ends_tree ModeDue next base e = cc
-ends_tree (ChunkTable tool) next base e = cc
-ends_tree (ChunkDue tool) next base e = cc
-ends_tree (ChunkNumber tool) next base e = cc
-ends_tree EdgeFrom next base e = cc
-ends_tree (EdgeDue end) next base e = cc
-ends_tree EdgeTo next base e = cc
-ends_tree UsingDue next base e = cc
-ends_tree KindDue next base e = cc
-ends_tree CountDue next base e = cc
-ends_tree CountNumber next base e = cc
-ends_tree CrcDue next base e = cc
-ends_tree CrcText next base e = cc
-ends_tree ClearTable next base e = cc
-ends_tree EndDue next base e = cc
-ends_tree NothingDue next base e = cc
+ends_tree _ next base e = cc
 
 -- ---- from each spot a statement can be ended
 

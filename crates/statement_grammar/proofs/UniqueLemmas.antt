@@ -132,9 +132,6 @@ pub record SameRead (schemas : List Schema) (spot : Spot) (ps qs : List Piece) (
 flipped : (schemas : List Schema) (spot : Spot) (ps qs : List Piece) (p q : Option (Shape × ℕ)) → SameRead schemas spot ps qs p q → SameRead schemas spot qs ps q p
 flipped schemas spot ps qs p q r = record { faults = λ draft. sym (r.faults draft); pieces = λ a b. sym (r.pieces b a) }
 
-abbrev some_tree : Shape → ℕ → Option (Shape × ℕ)
-some_tree s n = Some (s, n)
-
 not_none : (tree : Shape × ℕ) → Some tree ≡ None → ⊥
 not_none tree e = cc
 

@@ -247,35 +247,38 @@ two_written word letters x y a b l r rest t i j e =
     (enclosed_spelled l x.tree a.text ((32 ∷ (letters ++ (32 ∷ text.enclosed r b.text))) ++ rest) i.spelled refl)
     (between word letters (words_of (tokens_of (enclosed r y.tree))) (text.enclosed r b.text) rest (t (text.enclosed r b.text ++ rest)) (some_enclosed r y.tree j.some) (enclosed_spelled r y.tree b.text rest j.spelled e)))
 
+-- an AND or an OR, whose left side stands bare unless it is of the other word
+joined_written : (word : Word) (letters : List ℕ) (x y : WrittenCond) (a b : text.WrittenCond) (p q : Bool) (rest : List ℕ) → q ≡ p → ((bytes : List ℕ) → TokenAt false word letters (32 ∷ bytes)) → CondWritten x a → CondWritten y b → ends_token rest ≡ true
+    → Spelled (words_of (tokens_of (enclosed (not p) x.tree) ++ (placeless word ∷ tokens_of (on_the_right y)))) ((text.enclosed (not q) a.text ++ (32 ∷ (letters ++ 32 ∷ []))) ++ text.text_on_the_right b) rest
+joined_written word letters x y a b p q rest same t i j e =
+    subst (λ (o : Bool). Spelled words ((text.enclosed (not o) a.text ++ (32 ∷ (letters ++ 32 ∷ []))) ++ text.text_on_the_right b) rest) (sym same)
+    (subst (λ (o : Bool). Spelled words ((text.enclosed (not p) a.text ++ (32 ∷ (letters ++ 32 ∷ []))) ++ text.enclosed (not o) b.text) rest) (sym bare)
+    (subst (λ (l : List ℕ). Spelled words l rest)
+    (sym (append_assoc (text.enclosed (not p) a.text) (32 ∷ (letters ++ 32 ∷ [])) (text.enclosed (not (y.is_and || y.is_or)) b.text)
+    ∙ ap (λ (l : List ℕ). text.enclosed (not p) a.text ++ (32 ∷ l)) (append_assoc letters (32 ∷ []) (text.enclosed (not (y.is_and || y.is_or)) b.text))))
+    (two_written word letters x y a b (not p) (not (y.is_and || y.is_or)) rest t i j e)))
+  where
+    words : List Word
+    words = words_of (tokens_of (enclosed (not p) x.tree) ++ (placeless word ∷ tokens_of (on_the_right y)))
+
+    bare : (b.is_and || b.is_or) ≡ (y.is_and || y.is_or)
+    bare = ap (λ (p : Bool). p || b.is_or) j.ands ∙ ap (λ (p : Bool). y.is_and || p) j.ors
+
 and_written : (schemas : List Schema) (table : ℕ) (schema : Schema) (x y : WrittenCond) (a b : text.WrittenCond) → CondWritten x a → CondWritten y b → CondWritten (cond_written_at schema (c.And x y)) (text.cond_written_at schemas table (c.And a b))
 and_written schemas table schema x y a b i j = record {
   ands = refl;
   ors = refl;
   some = no_words (tokens_of (left_of_and x)) (tokens_of (on_the_right y)) (placeless w.And);
-  spelled = λ rest e.
-      subst (λ (o : Bool). Spelled (words_of (tokens_of (left_of_and x) ++ (placeless w.And ∷ tokens_of (on_the_right y)))) ((text.enclosed (not o) a.text ++ codes " AND ") ++ text.text_on_the_right b) rest) (sym i.ors)
-      (subst (λ (o : Bool). Spelled (words_of (tokens_of (left_of_and x) ++ (placeless w.And ∷ tokens_of (on_the_right y)))) ((text.enclosed (not x.is_or) a.text ++ codes " AND ") ++ text.enclosed (not o) b.text) rest) (sym bare)
-      (subst (λ (l : List ℕ). Spelled (words_of (tokens_of (left_of_and x) ++ (placeless w.And ∷ tokens_of (on_the_right y)))) l rest) (sym (append_assoc (text.enclosed (not x.is_or) a.text) (codes " AND ") (text.enclosed (not (y.is_and || y.is_or)) b.text)))
-      (two_written w.And (codes "AND") x y a b (not x.is_or) (not (y.is_and || y.is_or)) rest (λ bytes. record { spelled = refl; longest = refl; bits = tt }) i j e)));
+  spelled = λ rest e. joined_written w.And (codes "AND") x y a b x.is_or a.is_or rest i.ors (λ bytes. record { spelled = refl; longest = refl; bits = tt }) i j e;
 }
-  where
-    bare : (b.is_and || b.is_or) ≡ (y.is_and || y.is_or)
-    bare = ap (λ (p : Bool). p || b.is_or) j.ands ∙ ap (λ (p : Bool). y.is_and || p) j.ors
 
 or_written : (schemas : List Schema) (table : ℕ) (schema : Schema) (x y : WrittenCond) (a b : text.WrittenCond) → CondWritten x a → CondWritten y b → CondWritten (cond_written_at schema (c.Or x y)) (text.cond_written_at schemas table (c.Or a b))
 or_written schemas table schema x y a b i j = record {
   ands = refl;
   ors = refl;
   some = no_words (tokens_of (left_of_or x)) (tokens_of (on_the_right y)) (placeless w.Or);
-  spelled = λ rest e.
-      subst (λ (o : Bool). Spelled (words_of (tokens_of (left_of_or x) ++ (placeless w.Or ∷ tokens_of (on_the_right y)))) ((text.enclosed (not o) a.text ++ codes " OR ") ++ text.text_on_the_right b) rest) (sym i.ands)
-      (subst (λ (o : Bool). Spelled (words_of (tokens_of (left_of_or x) ++ (placeless w.Or ∷ tokens_of (on_the_right y)))) ((text.enclosed (not x.is_and) a.text ++ codes " OR ") ++ text.enclosed (not o) b.text) rest) (sym bare)
-      (subst (λ (l : List ℕ). Spelled (words_of (tokens_of (left_of_or x) ++ (placeless w.Or ∷ tokens_of (on_the_right y)))) l rest) (sym (append_assoc (text.enclosed (not x.is_and) a.text) (codes " OR ") (text.enclosed (not (y.is_and || y.is_or)) b.text)))
-      (two_written w.Or (codes "OR") x y a b (not x.is_and) (not (y.is_and || y.is_or)) rest (λ bytes. record { spelled = refl; longest = refl; bits = tt }) i j e)));
+  spelled = λ rest e. joined_written w.Or (codes "OR") x y a b x.is_and a.is_and rest i.ands (λ bytes. record { spelled = refl; longest = refl; bits = tt }) i j e;
 }
-  where
-    bare : (b.is_and || b.is_or) ≡ (y.is_and || y.is_or)
-    bare = ap (λ (p : Bool). p || b.is_or) j.ands ∙ ap (λ (p : Bool). y.is_and || p) j.ors
 
 abbrev pub IsSpelled : List Schema → ℕ → Schema → Cond → Type 0
 IsSpelled schemas table schema condition = cond_spells schema condition ≡ true → CondWritten (cond_written schema condition) (text.cond_written schemas table condition)

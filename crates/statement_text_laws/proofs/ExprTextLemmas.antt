@@ -25,7 +25,8 @@ use Rattle.statement_text.specs.ConditionTexts as text
 use Rattle.statement_text.specs.ConditionTexts.{opening, closing, column_name}
 use Rattle.statement_text_laws.specs.Canonical.{placeless, enclosed, value_tree, name_at, WrittenExpr, is_from_zero, arithmetic, operand, expr_written_at, expr_written}
 use Rattle.statement_text_laws.specs.SpelledWords.{Spelled, words_of, ends_token, are_text_bytes, literal_spells, expr_spells_at, expr_spells, HasNames, ExprsAreSpelled}
-use Rattle.statement_text_laws.proofs.SpelledLemmas.{joined, spaced, one, before_others, stops, decimal_spells}
+use Rattle.statement_tokens.proofs.NumberLemmas.{decimal_spells}
+use Rattle.statement_text_laws.proofs.SpelledLemmas.{joined, spaced, one, before_others, stops}
 
 pub both : (a b : Bool) → (a && b) ≡ true → (a ≡ true) × (b ≡ true)
 both true b r = (refl, r)

@@ -1,17 +1,14 @@
 -- Words, one behind another.
-use Rattle.std.proofs.Common.{◌≡◌, ℕ, ◌+◌, ◌-◌, ◌*◌, ◌%◌, ◌<◌, ◌^◌, Bool, true, false, List, [], ◌∷◌, ◌++◌, refl, sym, ◌∙◌, ap, subst, length, arith, append_assoc, append-nil}
+use Rattle.std.proofs.Common.{◌≡◌, ℕ, ◌+◌, Bool, true, false, List, [], ◌∷◌, ◌++◌, refl, sym, ◌∙◌, ap, subst, length, arith, append_assoc, append-nil}
 use Rattle.std.specs.Prelude.{◌==◌, ◌||◌}
-use Rattle.std.specs.List.{AllByRecursion}
 use Rattle.std.specs.Char.{is_ascii_digit}
-use Rattle.std.specs.Fmt.{decimal}
-use Rattle.std.proofs.lemmas.Fmt.{decimal_by_steps}
 use Rattle.std.proofs.lemmas.Bool.Decides.{nat_tests}
 use Rattle.ptc_statement.specs.declared.expressions.Op.TheVariants as op
 use Rattle.statement_tokens.specs.declared.words.Token.{Token}
 use Rattle.statement_tokens.specs.declared.words.Word.{Word}
 use Rattle.statement_tokens.specs.declared.words.Word.TheVariants as w
 use Rattle.statement_tokens.specs.declared.text_ends.TextEnd.TheVariants.{Whole}
-use Rattle.statement_tokens.specs.Spellings.{IsNumberText, StopsAtEnd, goes_on, number_from}
+use Rattle.statement_tokens.specs.Spellings.{StopsAtEnd, goes_on, is_word_byte}
 use Rattle.statement_tokens.specs.Tokens.{TokenAt, InBits, AreTokens, is_behind_sign}
 use Rattle.statement_text_laws.specs.SpelledWords.{Spelled, words_of, WordsAreRead, ends_token}
 
@@ -83,53 +80,29 @@ before_others word words text bytes rest h i = ([], text, bytes, refl, tt, h, i)
 
 -- ---- what ends a token
 
-at_space : (word : Word) → goes_on word 32 ≡ false
-at_space (w.Number n) = refl
-at_space (w.Text n) = refl
-at_space (w.Compare op.Lt) = refl
-at_space (w.Compare op.Gt) = refl
-at_space (w.Compare op.Eq) = refl
-at_space (w.Compare op.Ne) = refl
-at_space (w.Compare op.Le) = refl
-at_space (w.Compare op.Ge) = refl
-at_space (w.Math o) = refl
-at_space w.Open = refl
-at_space w.Close = refl
-at_space w.Comma = refl
-at_space w.Semicolon = refl
-at_space _ = refl
+-- no token is longer with this byte behind it
+record EndsAll (byte : ℕ) : Type 0 where
+  digit : is_ascii_digit byte ≡ false
+  word : is_word_byte byte ≡ false
+  quote : (byte == 39) ≡ false
+  equals : (byte == 61) ≡ false
+  greater : (byte == 62) ≡ false
 
-at_close : (word : Word) → goes_on word 41 ≡ false
-at_close (w.Number n) = refl
-at_close (w.Text n) = refl
-at_close (w.Compare op.Lt) = refl
-at_close (w.Compare op.Gt) = refl
-at_close (w.Compare op.Eq) = refl
-at_close (w.Compare op.Ne) = refl
-at_close (w.Compare op.Le) = refl
-at_close (w.Compare op.Ge) = refl
-at_close (w.Math o) = refl
-at_close w.Open = refl
-at_close w.Close = refl
-at_close w.Comma = refl
-at_close w.Semicolon = refl
-at_close _ = refl
-
-at_comma : (word : Word) → goes_on word 44 ≡ false
-at_comma (w.Number n) = refl
-at_comma (w.Text n) = refl
-at_comma (w.Compare op.Lt) = refl
-at_comma (w.Compare op.Gt) = refl
-at_comma (w.Compare op.Eq) = refl
-at_comma (w.Compare op.Ne) = refl
-at_comma (w.Compare op.Le) = refl
-at_comma (w.Compare op.Ge) = refl
-at_comma (w.Math o) = refl
-at_comma w.Open = refl
-at_comma w.Close = refl
-at_comma w.Comma = refl
-at_comma w.Semicolon = refl
-at_comma _ = refl
+ends_all : (byte : ℕ) (word : Word) → EndsAll byte → goes_on word byte ≡ false
+ends_all byte (w.Number n) e = e.digit
+ends_all byte (w.Text n) e = e.quote
+ends_all byte (w.Compare op.Lt) e = rw (e.equals, e.greater) refl
+ends_all byte (w.Compare op.Gt) e = e.equals
+ends_all byte (w.Compare op.Eq) e = refl
+ends_all byte (w.Compare op.Ne) e = refl
+ends_all byte (w.Compare op.Le) e = refl
+ends_all byte (w.Compare op.Ge) e = refl
+ends_all byte (w.Math o) e = refl
+ends_all byte w.Open e = refl
+ends_all byte w.Close e = refl
+ends_all byte w.Comma e = refl
+ends_all byte w.Semicolon e = refl
+ends_all byte _ e = e.word
 
 same : (a b : ℕ) → (a == b) ≡ true → a ≡ b
 same a b h = grind (arith, nat_tests)
@@ -139,39 +112,13 @@ stops word [] h = tt
 stops word (byte ∷ bytes) h = by_space (byte == 32) refl h
   where
     by_comma : (b : Bool) → (byte == 44) ≡ b → b ≡ true → goes_on word byte ≡ false
-    by_comma true t e = ap (goes_on word) (same byte 44 t) ∙ at_comma word
+    by_comma true t e = ap (goes_on word) (same byte 44 t) ∙ ends_all 44 word (record { digit = refl; word = refl; quote = refl; equals = refl; greater = refl })
     by_comma false t e = cc
 
     by_close : (b : Bool) → (byte == 41) ≡ b → (b || byte == 44) ≡ true → goes_on word byte ≡ false
-    by_close true t e = ap (goes_on word) (same byte 41 t) ∙ at_close word
+    by_close true t e = ap (goes_on word) (same byte 41 t) ∙ ends_all 41 word (record { digit = refl; word = refl; quote = refl; equals = refl; greater = refl })
     by_close false t e = by_comma (byte == 44) refl e
 
     by_space : (b : Bool) → (byte == 32) ≡ b → (b || (byte == 41 || byte == 44)) ≡ true → goes_on word byte ≡ false
-    by_space true t e = ap (goes_on word) (same byte 32 t) ∙ at_space word
+    by_space true t e = ap (goes_on word) (same byte 32 t) ∙ ends_all 32 word (record { digit = refl; word = refl; quote = refl; equals = refl; greater = refl })
     by_space false t e = by_close (byte == 41) refl e
-
--- ---- numbers
-
-number_behind : (m d : ℕ) (ds : List ℕ) → number_from m (ds ++ d ∷ []) ≡ number_from m ds * 10 + (d - 48)
-number_behind m d [] = refl
-number_behind m d (x ∷ xs) = number_behind (m * 10 + (x - 48)) d xs
-
-digits_behind : (d : ℕ) (ds : List ℕ) → is_ascii_digit d ≡ true → AllByRecursion (λ (byte : ℕ). is_ascii_digit byte ≡ true) ds → AllByRecursion (λ (byte : ℕ). is_ascii_digit byte ≡ true) (ds ++ d ∷ [])
-digits_behind d [] h i = (h, tt)
-digits_behind d (x ∷ xs) h i = (i.0, digits_behind d xs h i.1)
-
-a_digit : (n : ℕ) → n < 10 → is_ascii_digit (48 + n) ≡ true
-a_digit n h = grind (arith, nat_tests)
-
-no_end : (ds : List ℕ) (d : ℕ) → ds ++ d ∷ [] ≡ [] → ⊥
-no_end [] d e = cc
-no_end (x ∷ xs) d e = cc
-
-pub decimal_spells : (n : ℕ) → n < 2 ^ 64 → IsNumberText n (decimal n)
-decimal_spells = decimal_by_steps IsNumberText
-    (λ n h. record { some = λ e. no_end [] (48 + n) e; digits = (a_digit n h, tt); value = (let a : 48 + n - 48 ≡ n = omega arith in let b : n ≡ 0 * 10 + (48 + n - 48) = omega arith in b) })
-    (λ n ds h i. record {
-      some = λ e. no_end ds (48 + n % 10) e;
-      digits = digits_behind (48 + n % 10) ds (a_digit (n % 10) (omega arith)) i.digits;
-      value = (let a = i.value in let b = number_behind 0 (48 + n % 10) ds in omega arith);
-    })

@@ -92,13 +92,17 @@ is_column column (Some found) = found == column
 abbrev pub cell_reads : Schema → ℕ → Bool
 cell_reads schema column = is_column column (column_named schema (name_at schema column))
 
+-- whether each literal and each column of an expression passes
+abbrev pub expr_passes_at : (Value → Bool) → (ℕ → Bool) → Expr-F Bool → Bool
+expr_passes_at literal cell (e.Lit value) = literal value
+expr_passes_at literal cell (e.Cell column) = cell column
+expr_passes_at literal cell (e.Neg x) = x
+expr_passes_at literal cell (e.Add x y) = x && y
+expr_passes_at literal cell (e.Sub x y) = x && y
+expr_passes_at literal cell (e.Mul x y) = x && y
+
 abbrev pub expr_reads_at : Schema → Expr-F Bool → Bool
-expr_reads_at schema (e.Lit value) = literal_reads value
-expr_reads_at schema (e.Cell column) = cell_reads schema column
-expr_reads_at schema (e.Neg x) = x
-expr_reads_at schema (e.Add x y) = x && y
-expr_reads_at schema (e.Sub x y) = x && y
-expr_reads_at schema (e.Mul x y) = x && y
+expr_reads_at schema expr = expr_passes_at literal_reads (cell_reads schema) expr
 
 -- numbers of 64 bits, and columns that are there
 abbrev pub expr_reads : Schema → Expr → Bool
@@ -166,18 +170,26 @@ abbrev pub key_literal_reads : Value → Bool
 key_literal_reads Null = false
 key_literal_reads value = literal_reads value
 
--- two literals that are not NULL, where the key has two columns
+-- two literals that pass, where the key has two columns
+abbrev pub key_passes : (Value → Bool) → Keys → List Value → Bool
+key_passes literal (Some names) (first ∷ second ∷ []) = literal first && literal second
+key_passes literal keys key = false
+
+-- literals that are not NULL
 abbrev pub key_reads : Keys → List Value → Bool
-key_reads (Some names) (first ∷ second ∷ []) = key_literal_reads first && key_literal_reads second
-key_reads keys key = false
+key_reads keys key = key_passes key_literal_reads keys key
+
+-- whether each expression and each key of a condition passes
+abbrev pub cond_passes_at : (Expr → Bool) → (List Value → Bool) → Cond-F Bool → Bool
+cond_passes_at expr key (c.Compare op left right) = expr left && expr right
+cond_passes_at expr key (c.KeyCompare op values) = key values
+cond_passes_at expr key (c.IsNull x negated) = expr x
+cond_passes_at expr key (c.Not x) = x
+cond_passes_at expr key (c.And x y) = x && y
+cond_passes_at expr key (c.Or x y) = x && y
 
 abbrev pub cond_reads_at : Schema → Cond-F Bool → Bool
-cond_reads_at schema (c.Compare op left right) = expr_reads schema left && expr_reads schema right
-cond_reads_at schema (c.KeyCompare op key) = key_reads (keys_of schema) key
-cond_reads_at schema (c.IsNull expr negated) = expr_reads schema expr
-cond_reads_at schema (c.Not x) = x
-cond_reads_at schema (c.And x y) = x && y
-cond_reads_at schema (c.Or x y) = x && y
+cond_reads_at schema condition = cond_passes_at (expr_reads schema) (key_reads (keys_of schema)) condition
 
 abbrev pub cond_reads : Schema → Cond → Bool
 cond_reads schema condition = fold-Cond Bool (cond_reads_at schema) condition

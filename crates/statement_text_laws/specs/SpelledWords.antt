@@ -6,9 +6,7 @@ use Rattle.row_types.specs.declared.values.Value.TheVariants.{Null, Int, Text}
 use Rattle.row_types.specs.declared.table_schema.Column.{Column}
 use Rattle.row_types.specs.declared.table_schema.Schema.{Schema}
 use Rattle.ptc_statement.specs.declared.expressions.Expr.{Expr, Expr-F, fold-Expr}
-use Rattle.ptc_statement.specs.declared.expressions.Expr.TheOpen as e
 use Rattle.ptc_statement.specs.declared.conditions.Cond.{Cond, Cond-F, fold-Cond}
-use Rattle.ptc_statement.specs.declared.conditions.Cond.TheOpen as c
 use Rattle.statement_tokens.specs.declared.words.Token.{Token}
 use Rattle.statement_tokens.specs.declared.words.Word.{Word}
 use Rattle.statement_tokens.specs.declared.text_ends.TextEnd.TheVariants.{Whole}
@@ -18,7 +16,7 @@ use Rattle.statement_grammar.specs.Grammar.{tokens_of}
 use Rattle.statement_grammar.specs.Sentence.{Keys}
 use Rattle.statement_grammar.specs.FirstFault.{keys_of}
 use Rattle.statement_text.specs.ConditionTexts.{expr_text, cond_text}
-use Rattle.statement_text_laws.specs.Canonical.{expr_tree, cond_tree, in_64_bits}
+use Rattle.statement_text_laws.specs.Canonical.{expr_tree, cond_tree, in_64_bits, expr_passes_at, key_passes, cond_passes_at}
 
 -- these bytes, with the rest behind them, are these words; no number needs a sign before it
 abbrev pub Spelled : List Word → List ℕ → List ℕ → Type 0
@@ -51,12 +49,7 @@ literal_spells (Int n) = in_64_bits n
 literal_spells (Text text) = are_text_bytes text
 
 abbrev pub expr_spells_at : Schema → Expr-F Bool → Bool
-expr_spells_at schema (e.Lit value) = literal_spells value
-expr_spells_at schema (e.Cell column) = is_some (slice_get schema.columns column)
-expr_spells_at schema (e.Neg x) = x
-expr_spells_at schema (e.Add x y) = x && y
-expr_spells_at schema (e.Sub x y) = x && y
-expr_spells_at schema (e.Mul x y) = x && y
+expr_spells_at schema expr = expr_passes_at literal_spells (λ (column : ℕ). is_some (slice_get schema.columns column)) expr
 
 -- numbers of 64 bits, texts without control characters, columns that are there
 abbrev pub expr_spells : Schema → Expr → Bool
@@ -73,19 +66,12 @@ ExprsAreSpelled =
     → slice_get schemas table ≡ Some schema → HasNames schema → expr_spells schema expr ≡ true → ends_token rest ≡ true
     → Spelled (words_of (tokens_of (expr_tree schema expr))) (expr_text schemas table expr) rest
 
--- two literals, where the key has two columns
 abbrev pub key_spells : Keys → List Value → Bool
-key_spells (Some names) (first ∷ second ∷ []) = literal_spells first && literal_spells second
-key_spells keys key = false
+key_spells keys key = key_passes literal_spells keys key
 
 -- as for expressions
 abbrev pub cond_spells_at : Schema → Cond-F Bool → Bool
-cond_spells_at schema (c.Compare op left right) = expr_spells schema left && expr_spells schema right
-cond_spells_at schema (c.KeyCompare op key) = key_spells (keys_of schema) key
-cond_spells_at schema (c.IsNull expr negated) = expr_spells schema expr
-cond_spells_at schema (c.Not x) = x
-cond_spells_at schema (c.And x y) = x && y
-cond_spells_at schema (c.Or x y) = x && y
+cond_spells_at schema condition = cond_passes_at (expr_spells schema) (key_spells (keys_of schema)) condition
 
 abbrev pub cond_spells : Schema → Cond → Bool
 cond_spells schema condition = fold-Cond Bool (cond_spells_at schema) condition
