@@ -1,5 +1,5 @@
 -- The machine can always be led to an end.
-use Rattle.std.proofs.Common.{◌≡◌, ℕ, ◌≤◌, ◌<◌, Bool, true, false, List, [], ◌∷◌, ◌++◌, Option, Some, None, refl, sym, ap, ◌∙◌, arith, append-nil, nat_lt}
+use Rattle.std.proofs.Common.{◌≡◌, ℕ, ◌≤◌, ◌<◌, Bool, true, false, List, [], ◌∷◌, ◌++◌, Option, Some, refl, sym, ap, ◌∙◌, arith, append-nil, nat_lt}
 use Rattle.std.proofs.lemmas.Bool.Decides.{nat_tests}
 use Rattle.statement_tokens.specs.declared.words.Math.TheVariants.{Plus, Minus, Times}
 use Rattle.ptc_statement.specs.declared.expressions.Op.TheVariants as op
@@ -9,15 +9,12 @@ use Rattle.statement_tokens.specs.declared.words.Word.TheVariants as w
 use Rattle.statement_grammar.specs.declared.frames.Frame.{Frame}
 use Rattle.statement_grammar.specs.declared.frames.Frame.TheVariants.{Before, Behind, Low, High, Opened}
 use Rattle.statement_grammar.specs.Grammar.{Shape, Leaf, Prefix, Binary, Range, Nullness, Paren, Signed, RowTest, Setting, Slot, level, prefix_level, wants, gives, tokens_of}
-use Rattle.statement_grammar.specs.Machine.{Held, State, Due, Read, SawIs, SawNot, Lone, InRow, SawMinus, row_next, row_left, lone_held, ◌>>=◌, strength, frame_wants, frame_gives, filled, same_sort, close, takes_condition, run, moved, shapes}
+use Rattle.statement_grammar.specs.Machine.{Held, State, Due, Read, SawIs, SawNot, Lone, InRow, SawMinus, row_next, row_left, lone_held, ◌>>=◌, strength, frame_wants, frame_gives, filled, close, takes_condition, run, moved, shapes}
 use Rattle.statement_grammar.specs.Laws.{IsRead}
 use Rattle.statement_grammar.proofs.Sound.{Fillable, Stack, AreFrames, After, sound, run_sound}
 use Rattle.statement_grammar.proofs.Complete.{complete}
 use Rattle.statement_grammar.specs.Begins.{Begins}
-
-bind_some : {A B : Type 0} (o : Option A) (f : A → Option B) (y : B) → (o >>= f) ≡ Some y → (x : A) × (o ≡ Some x) × (f x ≡ Some y)
-bind_some None f y e = cc
-bind_some (Some x) f y e = (x, refl, e)
+use Rattle.statement_grammar.proofs.BasicLemmas.{same_sort_refl, gives_too, bind_some, run_more}
 
 abbrev zero_token : Token
 zero_token = record { word = w.Null; place = 0 }
@@ -46,30 +43,20 @@ onward g s next t e r = record { more = t ∷ r.more; held = r.held; x = r.x; ru
 stop_at : (k : ℕ) (f : Frame Shape) (fs : Stack) (c : Bool) (x : Shape) → strength f < k → close shapes k (f ∷ fs) c x ≡ Some (record { stack = f ∷ fs; condition = c; x = x })
 stop_at k f fs c x h = let e : nat_lt (strength f) k ≡ true = grind (arith, nat_tests) in rw e refl
 
-sort_refl : (b : Bool) → same_sort b b ≡ true
-sort_refl true = refl
-sort_refl false = refl
-
 pass_by : (k : ℕ) (f : Frame Shape) (fs : Stack) (c d : Bool) (x : Shape) → k ≤ strength f → frame_wants f ≡ c → frame_gives f ≡ d → close shapes k (f ∷ fs) c x ≡ close shapes k fs d (filled shapes f x)
-pass_by k f fs c d x h a b = let e : nat_lt (strength f) k ≡ false = grind (arith, nat_tests) in rw (e, ← a, ← b, sort_refl (frame_wants f)) refl
+pass_by k f fs c d x h a b = let e : nat_lt (strength f) k ≡ false = grind (arith, nat_tests) in rw (e, ← a, ← b, same_sort_refl (frame_wants f)) refl
 
 paren_move : (g : Setting) (h : Held Shape) (o : Token) (b c : Bool) (fs : Stack) (x : Shape) → close shapes 1 h.stack h.condition h.x ≡ Some (record { stack = Opened o b ∷ fs; condition = c; x = x })
     → moved g shapes (Read h) ends ≡ Some (Read (record { stack = fs; condition = c; x = Paren o x ends }))
 paren_move g h o b c fs x e = rw e refl
 
-wants_facts : (u : Word) → wants u ≡ true → gives u ≡ true
-wants_facts w.Or e = refl
-wants_facts w.And e = refl
-wants_facts w.Not e = refl
-wants_facts _ e = cc
-
 -- a condition stands
 condition_ends : (g : Setting) (fs : Stack) (x : Shape) (h : Held Shape) → AreFrames g fs → takes_condition g fs ≡ true → close shapes 1 h.stack h.condition h.x ≡ close shapes 1 fs true x → Ends g (Read h)
 condition_ends g [] x h a t e = record { more = []; held = h; x = x; runs = refl; closes = e ∙ ap (λ (b : Bool). Some (record { stack = []; condition = b; x = x })) (sym t) }
 condition_ends g (Before v ∷ fs) x h a t e =
-    condition_ends g fs (Prefix v x) h a.3 (a.2 (wants_facts v.word t)) (e ∙ pass_by 1 (Before v) fs true true x a.0 t (wants_facts v.word t))
+    condition_ends g fs (Prefix v x) h a.3 (a.2 (gives_too v.word t)) (e ∙ pass_by 1 (Before v) fs true true x a.0 t (gives_too v.word t))
 condition_ends g (Behind l v ∷ fs) x h a t e =
-    condition_ends g fs (Binary l v x) h a.3 (a.2 (wants_facts v.word t)) (e ∙ pass_by 1 (Behind l v) fs true true x a.0.0 t (wants_facts v.word t))
+    condition_ends g fs (Binary l v x) h a.3 (a.2 (gives_too v.word t)) (e ∙ pass_by 1 (Behind l v) fs true true x a.0.0 t (gives_too v.word t))
 condition_ends g (Low l v ∷ fs) x h a t e = cc
 condition_ends g (High y b l v ∷ fs) x h a t e = cc
 condition_ends g (Opened o b ∷ fs) x h a t e =
@@ -175,12 +162,6 @@ state_ends g ts (SawNot h i n) a = onward g (SawNot h i n) (Read (record { stack
 state_ends g ts (Lone fs o b) a = lone_ends g ts fs o b a
 state_ends g ts (InRow fs seen slot slots) a = row_ends g fs seen (slot ∷ slots) a.frames a.top a.ready
 state_ends g ts (SawMinus fs o) a = minus_ends g fs o a.0.3
-
-run_more : (g : Setting) (s next : State Shape) (ts us : List Token) → run g shapes s ts ≡ Some next → run g shapes s (ts ++ us) ≡ run g shapes next us
-run_more g s next [] us e = ap (λ (o : Option (State Shape)). o >>= λ (n : State Shape). run g shapes n us) e
-run_more g s next (t ∷ ts) us e =
-    let b = bind_some (moved g shapes s t) (λ (n : State Shape). run g shapes n ts) next e in
-    ap (λ (o : Option (State Shape)). o >>= λ (n : State Shape). run g shapes n (ts ++ us)) b.1 ∙ run_more g b.0 next ts us b.2
 
 run_front : (g : Setting) (s z : State Shape) (ts us : List Token) → run g shapes s (ts ++ us) ≡ Some z → (n : State Shape) × (run g shapes s ts ≡ Some n)
 run_front g s z [] us e = (s, refl)

@@ -1,7 +1,6 @@
 -- What is in the grammar is read.
-use Rattle.std.proofs.Common.{◌≡◌, ℕ, suc, ◌≤◌, ◌<◌, Bool, true, false, List, [], ◌∷◌, ◌++◌, Some, refl, sym, ap, subst, ◌∙◌, arith, append_assoc, append-nil, nat_lt, cond}
+use Rattle.std.proofs.Common.{◌≡◌, ℕ, suc, ◌≤◌, ◌<◌, Bool, true, false, List, [], ◌∷◌, ◌++◌, Some, refl, sym, ap, subst, ◌∙◌, arith, append_assoc, append-nil, cond}
 use Rattle.std.specs.Prelude.{⊤}
-use Rattle.std.proofs.lemmas.Bool.Decides.{nat_tests}
 use Rattle.statement_tokens.specs.declared.words.Math.TheVariants.{Plus, Minus, Times}
 use Rattle.statement_tokens.specs.declared.words.Token.{Token}
 use Rattle.statement_tokens.specs.declared.words.Word.{Word}
@@ -10,8 +9,9 @@ use Rattle.ptc_statement.specs.declared.expressions.Op.TheVariants as op
 use Rattle.statement_grammar.specs.declared.frames.Frame.{Frame}
 use Rattle.statement_grammar.specs.declared.frames.Frame.TheVariants.{Before, Behind, Low, High, Opened}
 use Rattle.statement_grammar.specs.Grammar.{Shape, Leaf, Prefix, Binary, Range, Nullness, Paren, Signed, RowTest, Setting, Slot, FirstSlot, CommaSlot, filled_by, is_number, is_minus, Unjoined, LeafBehind, is_open, is_comma, first_is, after_comma, row_slots, FillSlots, level, left_level, prefix_level, wants, gives, is_operand, IsAt, AreNullWords, tokens_of}
-use Rattle.statement_grammar.specs.Machine.{Maker, made, Held, State, Due, Read, SawIs, SawNot, Lone, InRow, SawMinus, ◌>>=◌, strength, frame_wants, frame_gives, filled, same_sort, close, takes_condition, operand, begun, and_then, followed, nulled, behind_is, behind_not, row_next, row_left, lone_held, behind_lone, run, moved}
+use Rattle.statement_grammar.specs.Machine.{Maker, made, Held, State, Due, Read, SawIs, SawNot, Lone, InRow, SawMinus, ◌>>=◌, strength, frame_wants, frame_gives, filled, close, takes_condition, operand, begun, and_then, followed, nulled, behind_is, behind_not, row_next, row_left, lone_held, behind_lone, run, moved}
 use Rattle.statement_grammar.specs.Laws.{Stops}
+use Rattle.statement_grammar.proofs.BasicLemmas.{lt_is, lt_not, same_sort_refl, gives_too}
 
 -- no word that may stand in an operand of this level closes the frame on top
 abbrev pub Waits : {X : Type 0} → ℕ → List (Frame X) → Type 0
@@ -25,29 +25,12 @@ pub record Reaches {X : Type 0} (g : Setting) (m : Maker X) (n : ℕ) (fs : List
   pub runs : run g m (Due fs) (ts ++ more) ≡ run g m (Read held) more
   pub closes : (k : ℕ) → k ≤ n → close m k held.stack held.condition held.x ≡ close m k fs c v
 
-same_sort_refl : (b : Bool) → same_sort b b ≡ true
-same_sort_refl true = refl
-same_sort_refl false = refl
-
-lt_is : (a b : ℕ) → a < b → nat_lt a b ≡ true
-lt_is a b h = grind (arith, nat_tests)
-
-lt_not : (a b : ℕ) → b ≤ a → nat_lt a b ≡ false
-lt_not a b h = grind (arith, nat_tests)
-
 pub stop : {X : Type 0} (m : Maker X) (k : ℕ) (fs : List (Frame X)) (c : Bool) (x : X) → Stops k fs → close m k fs c x ≡ Some (record { stack = fs; condition = c; x = x })
 stop m k [] c x h = refl
 stop m k (f ∷ fs) c x h = rw (lt_is (strength f) k h) refl
 
 pass : {X : Type 0} (m : Maker X) (k : ℕ) (f : Frame X) (fs : List (Frame X)) (x : X) → k ≤ strength f → close m k (f ∷ fs) (frame_wants f) x ≡ close m k fs (frame_gives f) (filled m f x)
 pass m k f fs x h = rw (lt_not (strength f) k h, same_sort_refl (frame_wants f)) refl
-
-pub gives_too : (u : Word) → wants u ≡ true → gives u ≡ true
-gives_too w.Or e = refl
-gives_too w.And e = refl
-gives_too w.Not e = refl
-gives_too (w.Compare o) e = refl
-gives_too _ e = cc
 
 pub left_least : (u : Word) → level u ≤ left_level u
 left_least w.Or = omega arith

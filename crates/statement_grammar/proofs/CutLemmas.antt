@@ -1,7 +1,6 @@
 -- The tree so far is what a whole tree is cut to.
 use Rattle.std.proofs.Common.{◌≡◌, ℕ, zero, suc, ◌≤◌, ◌<◌, ◌+◌, Bool, true, false, List, [], ◌∷◌, ◌++◌, Some, refl, sym, ap, subst, ◌∙◌, arith, append_assoc, append-nil, nat_lt, cond}
 use Rattle.std.specs.Prelude.{◌-◌, ⊤, take, drop, length, if◌then◌else◌}
-use Rattle.std.proofs.lemmas.Bool.Decides.{nat_tests}
 use Rattle.statement_tokens.specs.declared.words.Token.{Token}
 use Rattle.statement_tokens.specs.declared.words.Word.{Word}
 use Rattle.statement_tokens.specs.declared.words.Word.TheVariants as w
@@ -12,22 +11,11 @@ use Rattle.statement_grammar.specs.Grammar as g
 use Rattle.statement_grammar.specs.Grammar.{Shape, Setting, IsAt, tokens_of}
 use Rattle.statement_grammar.specs.Machine.{State, Due, Read, SawIs, SawNot, Lone, InRow, SawMinus, run, takes_condition, operand, begun, behind_is, behind_not, nulled, row_next, row_left}
 use Rattle.statement_grammar.specs.Cut.{Part, Gap, Leaf, Prefix, Binary, Lower, Range, Nullness, Paren, Signed, RowTest, parts, whole, len, cut, cut_row}
-use Rattle.statement_grammar.proofs.Complete.{Waits, Ready, complete, stop, joins, step, prefix_waits, left_least, gives_too, ranges, ands, iss, opens, parens, minus_is, one_slot, quiet_token, level_quiet, between_quiet, is_quiet, close_quiet, sign_runs, starts_plain, minus_level, StartsPlain, signed_runs, lone_begins, comma_goes, open_is}
+use Rattle.statement_grammar.proofs.Complete.{Waits, Ready, complete, stop, joins, step, prefix_waits, left_least, ranges, ands, iss, opens, parens, minus_is, one_slot, quiet_token, level_quiet, between_quiet, is_quiet, close_quiet, sign_runs, starts_plain, minus_level, StartsPlain, signed_runs, lone_begins, comma_goes, open_is}
 use Rattle.statement_grammar.specs.SoFar.{filled_up, so_far, so_far_before}
+use Rattle.statement_grammar.proofs.BasicLemmas.{lt_is, lt_not, lt_yes, lt_no, gives_too}
 
 -- ---- fronts of lists
-
-lt_is : (a b : ℕ) → a < b → nat_lt a b ≡ true
-lt_is a b h = grind (arith, nat_tests)
-
-lt_not : (a b : ℕ) → b ≤ a → nat_lt a b ≡ false
-lt_not a b h = grind (arith, nat_tests)
-
-pub lt_yes : (a b : ℕ) → nat_lt a b ≡ true → a < b
-lt_yes a b h = grind (arith, nat_tests)
-
-pub lt_no : (a b : ℕ) → nat_lt a b ≡ false → b ≤ a
-lt_no a b h = grind (arith, nat_tests)
 
 take_in : (n : ℕ) (xs ys : List Token) → n ≤ length xs → take n (xs ++ ys) ≡ take n xs
 take_in zero xs ys h = refl

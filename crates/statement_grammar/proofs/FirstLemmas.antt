@@ -4,9 +4,7 @@ use Rattle.std.specs.Prelude.{◌⊎◌, ◌==◌, ◌&&◌, ◌||◌, nat_lt, i
 use Rattle.std.proofs.lemmas.Bool.Decides.{nat_tests}
 use Rattle.statement_grammar.specs.declared.text_faults.TextFault.{TextFault}
 use Rattle.statement_grammar.specs.FirstFault.{place_of_fault, rank_of, comes_before, earlier, first_of, NotBehind, IsAmong, IsLeast, FirstIsLeast}
-
-some_is : {A : Type 0} (x y : A) → Some x ≡ Some y → x ≡ y
-some_is x y e = cc
+use Rattle.statement_tokens.proofs.ReservedLemmas.{some_is}
 
 before_is : (p q r t : ℕ) → (nat_lt p q || ((p == q) && nat_lt r t)) ≡ true → (p < q) ⊎ ((p ≡ q) × (r ≤ t))
 before_is p q r t e = grind (arith, nat_tests)

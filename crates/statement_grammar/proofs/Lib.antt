@@ -1,3 +1,4 @@
+pub mod BasicLemmas
 pub mod Complete
 pub mod Sound
 pub mod Alive

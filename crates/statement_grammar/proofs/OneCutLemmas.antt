@@ -1,5 +1,5 @@
 -- The tree so far is in the tokens that are read.
-use Rattle.std.proofs.Common.{◌≡◌, ℕ, zero, suc, ◌≤◌, List, [], ◌∷◌, ◌++◌, Some, refl, sym, ap, subst, ◌∙◌, arith, append_assoc, nat_lt}
+use Rattle.std.proofs.Common.{◌≡◌, ℕ, zero, suc, ◌≤◌, List, [], ◌∷◌, ◌++◌, refl, sym, ap, subst, ◌∙◌, arith, append_assoc, nat_lt}
 use Rattle.std.specs.Prelude.{take, drop, length, if◌then◌else◌}
 use Rattle.statement_tokens.specs.declared.words.Token.{Token}
 use Rattle.statement_grammar.specs.Grammar.{Shape, Setting, IsAt, tokens_of}
@@ -8,9 +8,7 @@ use Rattle.statement_grammar.specs.Cut.{Part, parts, cut, height}
 use Rattle.statement_grammar.specs.SoFar.{so_far, so_far_before, OneCut, OneCutOnTheWay}
 use Rattle.statement_grammar.specs.Faults.{deep_from, deep_in, is_last}
 use Rattle.statement_grammar.proofs.CutLemmas.{Next, cuts, length_on}
-
-some_is : {A : Type 0} (x y : A) → Some x ≡ Some y → x ≡ y
-some_is x y e = cc
+use Rattle.statement_tokens.proofs.ReservedLemmas.{some_is}
 
 pub one_cut : OneCut
 one_cut g s other n h i l m e =

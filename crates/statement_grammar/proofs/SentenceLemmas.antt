@@ -9,10 +9,12 @@ use Rattle.statement_grammar.specs.Laws.{IsRead}
 use Rattle.statement_grammar.specs.Begins.{Begins}
 use Rattle.statement_grammar.specs.Sentence.{Piece, One, Tree, piece_tokens, pieces_tokens, Spot, StatementDue, tree_at, one, may_end, Keys, setting, Follows, IsSentence, BeginsSentence}
 use Rattle.statement_grammar.specs.SentenceMachine.{Place, At, In, put_at, put_in, no_frames, is_bare, closed_held, is_whole, behind_tree, entered, stepped, bound, walk, place_ends, IsWalked}
-use Rattle.statement_grammar.proofs.SpotLemmas.{some_is, terminates, no_tree, EndsTree, ends_tree, finish}
+use Rattle.statement_grammar.proofs.SpotLemmas.{terminates, no_tree, EndsTree, ends_tree, finish}
 use Rattle.statement_grammar.proofs.Complete.{complete}
 use Rattle.statement_grammar.proofs.Sound.{sound}
 use Rattle.statement_grammar.proofs.Alive.{lives}
+use Rattle.statement_tokens.proofs.ReservedLemmas.{some_is}
+use Rattle.statement_grammar.proofs.BasicLemmas.{same_sort_refl, bind_some, both, both_true, run_more}
 
 -- ---- complete
 
@@ -30,10 +32,6 @@ one_behind key spot next base h t ends whole e =
 
 step_on : (key : Keys) (p next : Place) (t : Token) (ts : List Token) → stepped key p t ≡ Some next → walk key p (t ∷ ts) ≡ walk key next ts
 step_on key p next t ts e = ap (λ (o : Option Place). bound o (λ n. walk key n ts)) e
-
-bind_some : {A B : Type 0} (o : Option A) (f : A → Option B) (y : B) → (o >>= f) ≡ Some y → (x : A) × (o ≡ Some x) × (f x ≡ Some y)
-bind_some None f y e = cc
-bind_some (Some x) f y e = (x, refl, e)
 
 inside : (key : Keys) (base : Bool) (next : Spot) (s z : State Shape) (us rest : List Token) → run (setting base key) shapes s us ≡ Some z → walk key (In base next s) (us ++ rest) ≡ walk key (In base next z) rest
 inside key base next s z [] rest e = ap (λ (x : State Shape). walk key (In base next x) rest) (some_is s z e)
@@ -63,16 +61,12 @@ tree_some g n c (Paren o s p) h e = cc
 tree_some g n c (Signed t d) h e = cc
 tree_some g n c (RowTest ts) h e = subst (FillSlots g row_slots) e h.2
 
-same_refl : (b : Bool) → same_sort b b ≡ true
-same_refl true = refl
-same_refl false = refl
-
 tree_walks : (key : Keys) (spot : Spot) (base : Bool) (next : Spot) (s : Shape) (rest : List Token) → tree_at spot ≡ Some (base, next) → IsAt (setting base key) 1 base s
     → (h : Held Shape) × (walk key (At spot) (tokens_of s ++ rest) ≡ walk key (In base next (Read h)) rest) × (is_whole base (Read h) ≡ true)
 tree_walks key spot base next s rest d i =
     let r = complete (setting base key) shapes 1 base s [] [] i (λ u k e. tt) (λ e. e) tt in
     let c : close shapes 1 r.held.stack r.held.condition r.held.x ≡ Some (record { stack = []; condition = base; x = made shapes s }) = r.closes 1 (omega arith) in
-    (r.held, by_tokens (tokens_of s) refl r.held (ap (run (setting base key) shapes (Due [])) (sym (append-nil (tokens_of s))) ∙ r.runs), ap (is_bare base) c ∙ same_refl base)
+    (r.held, by_tokens (tokens_of s) refl r.held (ap (run (setting base key) shapes (Due [])) (sym (append-nil (tokens_of s))) ∙ r.runs), ap (is_bare base) c ∙ same_sort_refl base)
   where
     by_tokens : (ts : List Token) → tokens_of s ≡ ts → (h : Held Shape) → run (setting base key) shapes (Due []) (tokens_of s) ≡ Some (Read h) → walk key (At spot) (tokens_of s ++ rest) ≡ walk key (In base next (Read h)) rest
     by_tokens [] e h r = absurd (tree_some (setting base key) 1 base s i e)
@@ -80,8 +74,8 @@ tree_walks key spot base next s rest d i =
         ap (λ (ts : List Token). walk key (At spot) (ts ++ rest)) e
         ∙ into key spot base next (Read h) u us rest d (ap (run (setting base key) shapes (Due [])) (sym e) ∙ r)
 
-none_some : {A : Type 0} (o : Option A) (x : A) → o ≡ None → o ≡ Some x → ⊥
-none_some o x e f = cc
+not_some : {A : Type 0} (o : Option A) (x : A) → o ≡ None → o ≡ Some x → ⊥
+not_some o x e f = cc
 
 follow : (key : Keys) (spot end : Spot) (p : Place) (pieces : List Piece) → Reached spot p → Follows key spot pieces end → (q : Place) × (walk key p (pieces_tokens pieces) ≡ Some q) × Reached end q
 follow key spot end p [] r f = (p, refl, subst (λ (s : Spot). Reached s p) f r)
@@ -97,10 +91,7 @@ follow key spot end p (Tree s ∷ pieces) r f = cases (λ h whole. follow key f.
         let t = tree_walks key spot f.0 f.1 s (pieces_tokens pieces) f.2 f.3 in
         let after = goes t.0 t.2 in
         (after.0, ap (λ (x : Place). walk key x (tokens_of s ++ pieces_tokens pieces)) e ∙ t.1 ∙ after.1, after.2)
-    cases goes (Behind from base d h e whole) = absurd (none_some (tree_at spot) (f.0, f.1) ((ends_tree from spot base d).none) f.2)
-
-both_true : (a b : Bool) → a ≡ true → b ≡ true → (a && b) ≡ true
-both_true a b e f = rw (e, f) refl
+    cases goes (Behind from base d h e whole) = absurd (not_some (tree_at spot) (f.0, f.1) ((ends_tree from spot base d).none) f.2)
 
 pub complete_sentence : (key : Keys) (ts : List Token) → IsSentence key ts → IsWalked key ts
 complete_sentence key ts h =
@@ -139,12 +130,6 @@ record InTree (key : Keys) (ts : List Token) (base : Bool) (next : Spot) (s : St
 abbrev AfterTokens : Keys → List Token → Place → Type 0
 AfterTokens key ts (At spot) = AtSpot key ts spot
 AfterTokens key ts (In base next s) = InTree key ts base next s
-
-run_more : (g : Setting) (s next : State Shape) (ts us : List Token) → run g shapes s ts ≡ Some next → run g shapes s (ts ++ us) ≡ run g shapes next us
-run_more g s next [] us e = ap (λ (o : Option (State Shape)). o >>= λ (n : State Shape). run g shapes n us) e
-run_more g s next (t ∷ ts) us e =
-    let b = bind_some (tree_moved g shapes s t) (λ (n : State Shape). run g shapes n ts) next e in
-    ap (λ (o : Option (State Shape)). o >>= λ (n : State Shape). run g shapes n (ts ++ us)) b.1 ∙ run_more g b.0 next ts us b.2
 
 run_one : (g : Setting) (s next : State Shape) (t : Token) → tree_moved g shapes s t ≡ Some next → run g shapes s (t ∷ []) ≡ Some next
 run_one g s next t e = ap (λ (o : Option (State Shape)). o >>= λ (n : State Shape). run g shapes n []) e
@@ -255,16 +240,12 @@ start key = record { pieces = []; follows = refl; same = refl }
 sentence : (key : Keys) (ts : List Token) (spot : Spot) → AtSpot key ts spot → may_end spot ≡ true → IsSentence key ts
 sentence key ts spot a e = record { pieces = a.pieces; end = spot; follows = a.follows; ends = e; spelled = a.same }
 
-split_true : (a b : Bool) → (a && b) ≡ true → (a ≡ true) × (b ≡ true)
-split_true true b e = (refl, e)
-split_true false b e = cc
-
 pub sound_sentence : (key : Keys) (ts : List Token) → IsWalked key ts → IsSentence key ts
 sound_sentence key ts h = cases h.place (walk_sound key [] ts (At StatementDue) h.place (start key) h.walks) h.ends
   where
     cases : (p : Place) → AfterTokens key ts p → place_ends p ≡ true → IsSentence key ts
     cases (At spot) a e = sentence key ts spot a e
-    cases (In base next s) a e = let b = split_true (is_whole base s) (may_end next) e in sentence key ts next (with_tree key ts base next s a b.0) b.1
+    cases (In base next s) a e = let b = both (is_whole base s) (may_end next) e in sentence key ts next (with_tree key ts base next s a b.0) b.1
 
 -- ---- begins
 

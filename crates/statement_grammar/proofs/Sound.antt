@@ -1,5 +1,5 @@
 -- What is read is in the grammar.
-use Rattle.std.proofs.Common.{◌≡◌, ℕ, suc, ◌≤◌, ◌<◌, Bool, true, false, List, [], ◌∷◌, ◌++◌, Option, Some, None, refl, sym, ap, subst, ◌∙◌, arith, append_assoc, append-nil, nat_lt, cond}
+use Rattle.std.proofs.Common.{◌≡◌, ℕ, suc, ◌≤◌, Bool, true, false, List, [], ◌∷◌, ◌++◌, Option, Some, None, refl, sym, ap, subst, ◌∙◌, arith, append_assoc, append-nil, nat_lt, cond}
 use Rattle.std.specs.Prelude.{not, ◌&&◌, ◌==◌, ⊤}
 use Rattle.std.proofs.lemmas.Bool.Decides.{nat_tests}
 use Rattle.statement_tokens.specs.declared.words.Math.TheVariants.{Plus, Minus, Times}
@@ -13,6 +13,8 @@ use Rattle.statement_grammar.specs.Grammar.{Shape, Leaf, Prefix, Binary, Range, 
 use Rattle.statement_grammar.specs.Machine.{Held, State, Due, Read, SawIs, SawNot, Lone, InRow, SawMinus, ◌>>=◌, strength, frame_wants, frame_gives, filled, same_sort, close, takes_condition, when, operand, begun, and_then, closed, followed, nulled, behind_is, behind_not, row_next, row_left, in_row, behind_minus, lone_held, behind_lone, run, moved, held_at, shapes}
 use Rattle.statement_grammar.specs.Laws.{IsRead, Stops}
 use Rattle.statement_grammar.proofs.Complete.{Ready}
+use Rattle.statement_tokens.proofs.ReservedLemmas.{some_is}
+use Rattle.statement_grammar.proofs.BasicLemmas.{lt_yes, lt_no, bind_some, both}
 
 abbrev pub Stack : Type 0
 Stack = List (Frame Shape)
@@ -155,15 +157,6 @@ pub record Closes (g : Setting) (k : ℕ) (fs : Stack) (c : Bool) (x : Shape) (z
   pub stops : Stops k z.stack
   pub same : under z.stack ++ tokens_of z.x ≡ under fs ++ tokens_of x
 
-some_is : {A : Type 0} (x y : A) → Some x ≡ Some y → x ≡ y
-some_is x y e = cc
-
-is_lt : (a b : ℕ) → nat_lt a b ≡ true → a < b
-is_lt a b e = grind (arith, nat_tests)
-
-is_le : (a b : ℕ) → nat_lt a b ≡ false → b ≤ a
-is_le a b e = grind (arith, nat_tests)
-
 strength_makes : (f : Frame Shape) → strength f ≤ makes f
 strength_makes (Before t) = omega arith
 strength_makes (Behind l t) = omega arith
@@ -192,10 +185,10 @@ close_step : (g : Setting) (k : ℕ) (f : Frame Shape) (fs : Stack) (c : Bool) (
     → close shapes k (f ∷ fs) c x ≡ Some z → Closes g k (f ∷ fs) c x z
 close_step g k f fs c x z k1 h more e =
     elim (nat_lt (strength f) k) as (λ b. nat_lt (strength f) k ≡ b → cond b (Some (record { stack = f ∷ fs; condition = c; x = x })) (cond (same_sort c (frame_wants f)) (close shapes k fs (frame_gives f) (filled shapes f x)) None) ≡ Some z → Closes g k (f ∷ fs) c x z) [
-      | true ↦ λ b r. subst (λ z. Closes g k (f ∷ fs) c x z) (some_is (record { stack = f ∷ fs; condition = c; x = x }) z r) (record { stands = h; stops = is_lt (strength f) k b; same = refl })
+      | true ↦ λ b r. subst (λ z. Closes g k (f ∷ fs) c x z) (some_is (record { stack = f ∷ fs; condition = c; x = x }) z r) (record { stands = h; stops = lt_yes (strength f) k b; same = refl })
       | false ↦ λ b r. elim (same_sort c (frame_wants f)) as (λ d. same_sort c (frame_wants f) ≡ d → cond d (close shapes k fs (frame_gives f) (filled shapes f x)) None ≡ Some z → Closes g k (f ∷ fs) c x z) [
         | true ↦ λ d q.
-            let l = is_le (strength f) k b in
+            let l = lt_no (strength f) k b in
             let m = more (popped g k f fs c x k1 l (sorts c (frame_wants f) d) h) q in
             record { stands = m.stands; stops = m.stops; same = m.same ∙ spelled f fs x (omega arith) }
         | false ↦ λ d q. cc
@@ -332,10 +325,6 @@ prime_fits g (f ∷ fs) c x h p = λ e. p (least (f ∷ fs)) (λ t. wants_least 
 stands : (g : Setting) (k : ℕ) (ts : List Token) (h : Held Shape) → Reading g ts h → (h.condition ≡ true → k ≤ 4) → Stands g k h.stack h.condition h.x
 stands g k ts h r l = record { frames = r.frames; here = r.prime k l; top = r.top; fits = prime_fits g h.stack h.condition h.x r.frames r.prime; plain = r.plain }
 
-bind_some : {A B : Type 0} (o : Option A) (f : A → Option B) (y : B) → (o >>= f) ≡ Some y → (x : A) × (o ≡ Some x) × (f x ≡ Some y)
-bind_some None f y e = cc
-bind_some (Some x) f y e = (x, refl, e)
-
 when_some : {A : Type 0} (b : Bool) (a y : A) → when b a ≡ Some y → (b ≡ true) × (a ≡ y)
 when_some true a y e = (refl, some_is a y e)
 when_some false a y e = cc
@@ -369,10 +358,6 @@ join_least g k (Opened o b ∷ fs) l s e = omega arith
 not_true : (b : Bool) → not b ≡ true → b ≡ false
 not_true true e = cc
 not_true false e = refl
-
-both : (a b : Bool) → (a && b) ≡ true → (a ≡ true) × (b ≡ true)
-both true b e = (refl, e)
-both false b e = cc
 
 -- a word between two operands is put on the stack
 pushed : (g : Setting) (u : Word) (ts : List Token) (gs : Stack) (c : Bool) (x : Shape) (t : Token) → t.word ≡ u → AreFrames g gs → IsAt g (left_level u) (wants u) x → under gs ++ tokens_of x ≡ ts → 1 ≤ level u

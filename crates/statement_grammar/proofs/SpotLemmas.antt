@@ -10,9 +10,7 @@ use Rattle.statement_tokens.specs.declared.words.Word.TheVariants as w
 use Rattle.statement_grammar.specs.Grammar.{Shape, Leaf, Nullness, Setting, IsAt}
 use Rattle.statement_grammar.specs.Machine.{Held, followed, shapes}
 use Rattle.statement_grammar.specs.Sentence.{Piece, One, Tree, Spot, StatementDue, IntoDue, IntoTable, ValuesDue, OpenDue, LiteralDue, LiteralEnds, DigitsDue, FromDue, DeleteTable, WhereDue, CondDue, CondEnds, UpdateTable, SetDue, ColumnDue, EqualsDue, ExprDue, SetEnds, StarDue, SelectFrom, SelectTable, SelectWhere, SelectCond, LockDue, ForDue, InDue, ShareDue, ModeDue, ChunkTable, ChunkDue, ChunkNumber, EdgeFrom, EdgeDue, EdgeTo, UsingDue, KindDue, CountDue, CountNumber, CrcDue, CrcText, ClearTable, EndDue, NothingDue, End, Lower, Upper, Literals, OfRow, OfEdge, OnChunk, Checks, SetsMaster, behind_edge, behind_literals, behind_chunk, tree_at, one, may_end, Keys, setting, Follows}
-
-pub some_is : {A : Type 0} (x y : A) → Some x ≡ Some y → x ≡ y
-some_is x y e = cc
+use Rattle.statement_tokens.proofs.ReservedLemmas.{some_is}
 
 abbrev pub is_terminator : Word → Bool
 is_terminator w.Comma = true

@@ -16,8 +16,10 @@ use Rattle.statement_grammar.specs.FirstFault.{IsOpen, open_tokens, StopsAt, IsW
 use Rattle.statement_grammar.specs.Unique.{OneStatement, OneFirstFault, NeverBoth}
 use Rattle.statement_grammar.proofs.Complete.{complete}
 use Rattle.statement_grammar.proofs.OneCutLemmas.{one_cut, one_depth, take_drop}
-use Rattle.statement_grammar.proofs.SpotLemmas.{some_is, terminates, is_terminator, no_tree, EndsTree, ends_tree}
+use Rattle.statement_grammar.proofs.SpotLemmas.{terminates, is_terminator, no_tree, EndsTree, ends_tree}
 use Rattle.statement_grammar.proofs.SentenceLemmas.{tree_some}
+use Rattle.statement_tokens.proofs.ReservedLemmas.{some_is}
+use Rattle.statement_tokens.proofs.OneListLemmas.{none_some}
 
 -- ---- one tree
 
@@ -38,9 +40,6 @@ read_end : (g : Setting) (s : Shape) → IsAt g 1 g.base s → (held : Held Shap
 read_end g s h =
     let r = complete g shapes 1 g.base s [] [] h (λ u k e. tt) (λ e. e) tt in
     (r.held, ap (run g shapes (Due [])) (sym (append-nil (tokens_of s))) ∙ r.runs, r.closes 1 (omega arith) ∙ ap (λ (x : Shape). Some (record { stack = []; condition = g.base; x = x })) (made_shapes s))
-
-none_some : {A : Type 0} (x : A) → None ≡ Some x → ⊥
-none_some x e = cc
 
 abbrev held_tree : Shape → Option (Held Shape) → Shape
 held_tree s None = s

@@ -26,10 +26,10 @@ use Rattle.statement_grammar.specs.FirstFault.{keys_of}
 use Rattle.statement_grammar.specs.Kinds.{sort_of, sort_of_kind, sort_of_column, sort_of_number, differ, text_operand, when_true, begins_at, breach, breaches, places, unknown_in, values_in, row_breaches_from}
 use Rattle.statement_text_laws.specs.Canonical.{placeless, value_tree, expr_tree, expr_written, expr_reads, WrittenCond, row_tokens, left_of_and, left_of_or, on_the_right, cond_written_at, cond_written, key_literal_reads, key_reads, cond_reads_at, cond_reads}
 use Rattle.statement_text_laws.specs.SpelledWords.{literal_spells, expr_spells, key_spells, cond_spells_at, cond_spells}
-use Rattle.statement_text_laws.proofs.CanonicalLemmas.{both}
 use Rattle.statement_round_trip.specs.RoundTrip.{HasOwnNames}
 use Rattle.statement_round_trip.proofs.PlacedLemmas.{none_of, empties, no_places}
-use Rattle.statement_round_trip.proofs.KindLemmas.{numbers_agree, texts_agree, never, ExprRight, expr_is_right, enclosed_height, enclosed_known, enclosed_kinds, two_true}
+use Rattle.statement_round_trip.proofs.KindLemmas.{numbers_agree, texts_agree, never, ExprRight, expr_is_right, enclosed_height, enclosed_known, enclosed_kinds}
+use Rattle.statement_grammar.proofs.BasicLemmas.{both, both_true}
 
 pub record CondRight (schema : Schema) (x : WrittenCond) (high : ℕ) (sound reads : Bool) : Type 0 where
   pub height_is : height (whole x.tree) ≡ high
@@ -59,7 +59,7 @@ compared_right schema op l r i j = record {
       (λ t. let q = both (fit.is_text schema l) (fit.is_text schema r) t in
       let a = i.texts q.0 in
       let b = j.texts q.1 in unbroken a.operand b.operand (texts_agree (sort_of schema left) (sort_of schema right) a.sort b.sort)));
-  read = λ e. two_true (expr_reads schema l) (expr_reads schema r) i.read j.read;
+  read = λ e. both_true (expr_reads schema l) (expr_reads schema r) i.read j.read;
 }
   where
     left : Part
@@ -178,7 +178,7 @@ key_is_read schema (Some names) (x ∷ []) e h = cc
 key_is_read schema (Some names) (x ∷ y ∷ z ∷ zs) e h = cc
 key_is_read schema (Some names) (x ∷ y ∷ []) e h =
     let k = key_kinds schema x y e in
-    let q = both (literal_spells x) (literal_spells y) h in two_true (key_literal_reads x) (key_literal_reads y) (not_null k.first.kind x k.first_fits q.0) (not_null k.second.kind y k.second_fits q.1)
+    let q = both (literal_spells x) (literal_spells y) h in both_true (key_literal_reads x) (key_literal_reads y) (not_null k.first.kind x k.first_fits q.0) (not_null k.second.kind y k.second_fits q.1)
 
 key_right : (schema : Schema) (op : Op) (key : List Value) → key_spells (keys_of schema) key ≡ true
     → CondRight schema (cond_written_at schema (c.KeyCompare op key)) 1 ((schema.key_len == 2) && literals_fit (take schema.key_len schema.columns) key) (key_reads (keys_of schema) key)
@@ -194,7 +194,7 @@ and_right schema x y h k s t r q i j = record {
   height_is = ap (λ (a : ℕ). max a (height (whole (on_the_right y))) + 1) (enclosed_height (not x.is_or) x.tree ∙ i.height_is) ∙ ap (λ (b : ℕ). max h b + 1) (enclosed_height (not (y.is_and || y.is_or)) y.tree ∙ j.height_is);
   known = empties (unknown_in schema (whole (left_of_and x))) (unknown_in schema (whole (on_the_right y))) (enclosed_known schema (not x.is_or) x.tree ∙ i.known) (enclosed_known schema (not (y.is_and || y.is_or)) y.tree ∙ j.known);
   kinds = λ e. let p = both s t e in empties (breaches schema (whole (left_of_and x))) (breaches schema (whole (on_the_right y))) (enclosed_kinds schema (not x.is_or) x.tree ∙ i.kinds p.0) (enclosed_kinds schema (not (y.is_and || y.is_or)) y.tree ∙ j.kinds p.1);
-  read = λ e. let p = both s t e in two_true r q (i.read p.0) (j.read p.1);
+  read = λ e. let p = both s t e in both_true r q (i.read p.0) (j.read p.1);
 }
 
 or_right : (schema : Schema) (x y : WrittenCond) (h k : ℕ) (s t r q : Bool) → CondRight schema x h s r → CondRight schema y k t q → CondRight schema (cond_written_at schema (c.Or x y)) (max h k + 1) (s && t) (r && q)
@@ -202,7 +202,7 @@ or_right schema x y h k s t r q i j = record {
   height_is = ap (λ (a : ℕ). max a (height (whole (on_the_right y))) + 1) (enclosed_height (not x.is_and) x.tree ∙ i.height_is) ∙ ap (λ (b : ℕ). max h b + 1) (enclosed_height (not (y.is_and || y.is_or)) y.tree ∙ j.height_is);
   known = empties (unknown_in schema (whole (left_of_or x))) (unknown_in schema (whole (on_the_right y))) (enclosed_known schema (not x.is_and) x.tree ∙ i.known) (enclosed_known schema (not (y.is_and || y.is_or)) y.tree ∙ j.known);
   kinds = λ e. let p = both s t e in empties (breaches schema (whole (left_of_or x))) (breaches schema (whole (on_the_right y))) (enclosed_kinds schema (not x.is_and) x.tree ∙ i.kinds p.0) (enclosed_kinds schema (not (y.is_and || y.is_or)) y.tree ∙ j.kinds p.1);
-  read = λ e. let p = both s t e in two_true r q (i.read p.0) (j.read p.1);
+  read = λ e. let p = both s t e in both_true r q (i.read p.0) (j.read p.1);
 }
 
 abbrev RightAt : Schema → Cond-F Cond → Type 0

@@ -11,9 +11,8 @@ use Rattle.row_types.specs.declared.digests.DigestKind.TheVariants.{Md5, Sha1}
 use Rattle.row_digest.specs.Digest.{crc_text}
 use Rattle.statement_grammar.specs.Sentence.{is_lower_digit, are_lower_digits, is_crc}
 use Rattle.statement_grammar.specs.Draft.{kind_of_crc, bytes_or_none, xor_of_crc}
-use Rattle.statement_text_laws.proofs.CanonicalLemmas.{both}
 use Rattle.statement_round_trip.specs.RoundTrip.{IsXor}
-use Rattle.statement_round_trip.proofs.KindLemmas.{two_true}
+use Rattle.statement_grammar.proofs.BasicLemmas.{both, both_true}
 
 -- ---- digits
 
@@ -48,8 +47,8 @@ digits (b ∷ xs) h =
     let fits : b < 256 = h 0 in
     let high : b / 16 < 16 = omega arith in
     let low : b % 16 < 16 = omega arith in
-    two_true (is_lower_digit (slice_index lower_digits (b / 16))) (is_lower_digit (slice_index lower_digits (b % 16)) && are_lower_digits (encode_with lower_digits xs)) (digit (b / 16) high)
-    (two_true (is_lower_digit (slice_index lower_digits (b % 16))) (are_lower_digits (encode_with lower_digits xs)) (digit (b % 16) low) (digits xs (λ k. h (suc k))))
+    both_true (is_lower_digit (slice_index lower_digits (b / 16))) (is_lower_digit (slice_index lower_digits (b % 16)) && are_lower_digits (encode_with lower_digits xs)) (digit (b / 16) high)
+    (both_true (is_lower_digit (slice_index lower_digits (b % 16))) (are_lower_digits (encode_with lower_digits xs)) (digit (b % 16) low) (digits xs (λ k. h (suc k))))
 
 -- ---- lists of bytes
 
@@ -83,7 +82,7 @@ no_number a e = grind (arith, nat_tests)
 
 pub crc_right : (kind : DigestKind) (master : Digest) → IsXor kind master.xor → (is_crc (crc_text kind master) ≡ true) × (kind_of_crc (crc_text kind master) ≡ kind) × (xor_of_crc (crc_text kind master) ≡ master.xor)
 crc_right Md5 master i = (
-  two_true ((length (encode_lower bytes) == 32) || (length (encode_lower bytes) == 40)) (are_lower_digits (encode_lower bytes)) (ap (λ (b : Bool). b || (length (encode_lower bytes) == 40)) is_32) (digits bytes are),
+  both_true ((length (encode_lower bytes) == 32) || (length (encode_lower bytes) == 40)) (are_lower_digits (encode_lower bytes)) (ap (λ (b : Bool). b || (length (encode_lower bytes) == 40)) is_32) (digits bytes are),
   ap (λ (b : Bool). if b then Md5 else Sha1) is_32,
   back bytes master.xor 4 are (omega (arith, long)) (ap (λ (l : List ℕ). bytes ++ l) (sym i.ends) ∙ take-append-drop 16 master.xor),
 )
@@ -100,7 +99,7 @@ crc_right Md5 master i = (
     is_32 : (length (encode_lower bytes) == 32) ≡ true
     is_32 = is_number (length (encode_lower bytes)) 32 (let l = length-encode_with lower_digits bytes in omega (arith, l, long))
 crc_right Sha1 master i = (
-  two_true ((length (encode_lower bytes) == 32) || (length (encode_lower bytes) == 40)) (are_lower_digits (encode_lower bytes))
+  both_true ((length (encode_lower bytes) == 32) || (length (encode_lower bytes) == 40)) (are_lower_digits (encode_lower bytes))
       (ap (λ (b : Bool). b || (length (encode_lower bytes) == 40)) (no_number (length (encode_lower bytes)) long) ∙ is_number (length (encode_lower bytes)) 40 long) (digits bytes i.bytes),
   ap (λ (b : Bool). if b then Md5 else Sha1) (no_number (length (encode_lower bytes)) long),
   back bytes master.xor 0 i.bytes (let l = i.long in omega arith) (append-nil master.xor),

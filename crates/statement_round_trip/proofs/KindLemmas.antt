@@ -22,10 +22,10 @@ use Rattle.statement_grammar.specs.Cut.{Part, whole, height}
 use Rattle.statement_grammar.specs.Kinds.{Sort, OfNumber, OfText, OfAny, sort_of, sort_of_kind, sort_of_column, sort_of_number, differ, is_text, own_text, text_operand, when_true, begins_at, breaches, unknown_in, no_column, column_named}
 use Rattle.statement_text_laws.specs.Canonical.{placeless, cell_reads, enclosed, value_tree, name_at, WrittenExpr, is_from_zero, operand, expr_written_at, expr_written, literal_reads, expr_reads_at, expr_reads}
 use Rattle.statement_text_laws.specs.SpelledWords.{literal_spells, expr_spells_at, expr_spells}
-use Rattle.statement_text_laws.proofs.CanonicalLemmas.{both}
 use Rattle.statement_round_trip.specs.RoundTrip.{HasOwnNames}
 use Rattle.statement_round_trip.proofs.NameLemmas.{own_column, cell_is_read}
 use Rattle.statement_round_trip.proofs.PlacedLemmas.{none_of, empties}
+use Rattle.statement_grammar.proofs.BasicLemmas.{both, both_true}
 
 -- ---- sorts
 
@@ -141,9 +141,6 @@ negated_right schema x high number text reads i = record {
     bare : Bool
     bare = x.is_leaf && not x.from_zero
 
-pub two_true : (a b : Bool) → a ≡ true → b ≡ true → (a && b) ≡ true
-two_true a b e f = rw (e, f) refl
-
 joined_right : (schema : Schema) (x y : WrittenExpr) (sign : Math) (h k : ℕ) (n m t u r s : Bool) → ExprRight schema x h n t r → ExprRight schema y k m u s
     → ExprRight schema (record { is_leaf = false; from_zero = false; tree = Binary (operand x) (placeless (w.Math sign)) (operand y) }) (max h k + 1) (n && m) false (r && s)
 joined_right schema x y sign h k n m t u r s i j = record {
@@ -158,7 +155,7 @@ joined_right schema x y sign h k n m t u r s i j = record {
         sort = refl;
       };
   texts = λ e. absurd (false_true e);
-  read = two_true r s i.read j.read;
+  read = both_true r s i.read j.read;
 }
 
 abbrev pub RightAt : Schema → Expr-F Expr → Type 0

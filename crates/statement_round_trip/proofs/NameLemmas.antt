@@ -9,12 +9,9 @@ use Rattle.statement_grammar.specs.Grammar.{same_bytes}
 use Rattle.statement_grammar.specs.Kinds.{column_from, column_named}
 use Rattle.statement_grammar.specs.Draft.{table_from}
 use Rattle.statement_text_laws.specs.Canonical.{name_at, is_column, cell_reads}
-use Rattle.statement_text_laws.proofs.CanonicalLemmas.{both}
 use Rattle.statement_text_laws.proofs.ConditionLemmas.{same_name}
 use Rattle.statement_round_trip.specs.RoundTrip.{HasOwnNames, AreNamed}
-
-equal : (a b : ℕ) → (a == b) ≡ true → a ≡ b
-equal a b h = grind (arith, nat_tests)
+use Rattle.statement_grammar.proofs.BasicLemmas.{both, equal}
 
 equal_names : (a b : List ℕ) → same_bytes a b ≡ true → a ≡ b
 equal_names [] [] e = refl

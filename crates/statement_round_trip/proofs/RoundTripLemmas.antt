@@ -20,7 +20,6 @@ use Rattle.statement_grammar.specs.Draft.{InsertForm, ReplaceForm, nothing_known
 use Rattle.statement_text.specs.StatementTexts.{statement_text}
 use Rattle.statement_text_laws.specs.SpelledWords.{words_of}
 use Rattle.statement_text_laws.specs.StatementWords.{row_words, statement_words, statement_spells, sets_spell, where_spells, edge_spells, are_plain}
-use Rattle.statement_text_laws.proofs.CanonicalLemmas.{both}
 use Rattle.statement_text_laws.proofs.SpelledLemmas.{words_are_read}
 use Rattle.statement_text_laws.proofs.StatementTextLemmas.{statements_are_spelled}
 use Rattle.statement_text_laws.proofs.OneTextLemmas.{one_statement_of_text}
@@ -29,6 +28,7 @@ use Rattle.statement_round_trip.proofs.NameLemmas.{named_table, each_at}
 use Rattle.statement_round_trip.proofs.ReadLemmas.{Reads, step}
 use Rattle.statement_round_trip.proofs.StatementReadLemmas.{Found, row_statement, delete_read, update_read, select_read}
 use Rattle.statement_round_trip.proofs.ToolReadLemmas.{check_read, master_read, clear_read}
+use Rattle.statement_grammar.proofs.BasicLemmas.{both}
 
 statement_read : (schemas : List Schema) (schema : Schema) (statement : Statement) → Found schemas (table_of statement) schema → IsSchema schema → HasOwnNames schema → StatementFits schema statement → statement_spells schema statement ≡ true → IsSaid schema statement
     → Reads schemas (keys_of schema) StatementDue nothing_known (statement_words schema statement) statement

@@ -37,7 +37,7 @@ use Rattle.statement_grammar.specs.Faults.{token_faults, tree_faults, table_faul
 use Rattle.statement_text_laws.specs.Canonical.{name_at, expr_tree, cond_tree}
 use Rattle.statement_text_laws.specs.SpelledWords.{words_of, expr_spells, cond_spells}
 use Rattle.statement_text_laws.specs.StatementWords.{row_words, where_words, assignment_words, assignments_words_on, assignments_words, lock_words, statement_words, values_spell, where_spells, assignment_spells, assignments_spell, sets_spell}
-use Rattle.statement_text_laws.proofs.CanonicalLemmas.{both, exprs_are_read_back}
+use Rattle.statement_text_laws.proofs.CanonicalLemmas.{exprs_are_read_back}
 use Rattle.statement_text_laws.proofs.ConditionLemmas.{conds_are_read_back}
 use Rattle.statement_round_trip.specs.RoundTrip.{HasOwnNames}
 use Rattle.statement_round_trip.proofs.NameLemmas.{own_column}
@@ -46,6 +46,7 @@ use Rattle.statement_round_trip.proofs.KindLemmas.{is_a_number, never, expr_is_r
 use Rattle.statement_round_trip.proofs.CondKindLemmas.{cond_is_right}
 use Rattle.statement_round_trip.proofs.ReadLemmas.{Reads, at_end, step, tree, cond_right, expr_right}
 use Rattle.statement_round_trip.proofs.ValueReadLemmas.{row_read}
+use Rattle.statement_grammar.proofs.BasicLemmas.{both}
 
 -- ---- the table
 

@@ -28,9 +28,10 @@ use Rattle.statement_grammar.specs.Faults.{kind_fault, value_fault, list_fault, 
 use Rattle.statement_text_laws.specs.Canonical.{literal_reads}
 use Rattle.statement_text_laws.specs.SpelledWords.{literal_spells}
 use Rattle.statement_text_laws.specs.StatementWords.{value_words, values_words_on, row_words, values_spell, edge_words, edge_spells}
-use Rattle.statement_text_laws.proofs.CanonicalLemmas.{both, least}
+use Rattle.statement_text_laws.proofs.CanonicalLemmas.{least}
 use Rattle.statement_round_trip.specs.RoundTrip.{EdgeFits}
 use Rattle.statement_round_trip.proofs.ReadLemmas.{Reads, next, step}
+use Rattle.statement_grammar.proofs.BasicLemmas.{both}
 
 -- ---- what a column keeps of a value that fits
 

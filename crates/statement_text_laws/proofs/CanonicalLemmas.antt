@@ -1,6 +1,6 @@
 -- What is written of an expression or a condition is it.
 use Rattle.std.proofs.Common.{◌≡◌, ℕ, pos, negsuc, ◌≤◌, Bool, true, false, Option, None, Some, refl, sym, ◌∙◌, ap, subst, arith, min}
-use Rattle.std.specs.Prelude.{◌==◌, ◌&&◌, not, leb}
+use Rattle.std.specs.Prelude.{◌&&◌, not, leb}
 use Rattle.std.proofs.lemmas.Bool.Decides.{nat_tests}
 use Rattle.row_types.specs.declared.values.Value.{Value}
 use Rattle.row_types.specs.declared.values.Value.TheVariants.{Null, Int, Text}
@@ -16,10 +16,7 @@ use Rattle.statement_grammar.specs.Machine.{made}
 use Rattle.statement_grammar.specs.Kinds.{column_named}
 use Rattle.statement_grammar.specs.Terms.{Term, OfExpr, terms, expr_in, math_expr, column_or_0}
 use Rattle.statement_text_laws.specs.Canonical.{placeless, enclosed, value_tree, name_at, WrittenExpr, is_from_zero, operand, expr_written_at, expr_written, literal_reads, is_column, cell_reads, expr_reads_at, expr_reads, ExprsAreReadBack}
-
-pub both : (a b : Bool) → (a && b) ≡ true → (a ≡ true) × (b ≡ true)
-both true b r = (refl, r)
-both false b r = cc
+use Rattle.statement_grammar.proofs.BasicLemmas.{both, equal}
 
 -- a written expression may stand where an operand of arithmetic may, in parentheses anywhere
 pub record IsRead (schema : Schema) (x : WrittenExpr) (expr : Expr) : Type 0 where
@@ -30,9 +27,6 @@ pub record IsRead (schema : Schema) (x : WrittenExpr) (expr : Expr) : Type 0 whe
 
 pub least : (n : ℕ) → leb n 9223372036854775807 ≡ true → min n 9223372036854775807 ≡ n
 least n h = grind (arith, nat_tests)
-
-same : (a b : ℕ) → (a == b) ≡ true → a ≡ b
-same a b h = grind (arith, nat_tests)
 
 value_read : (schema : Schema) (value : Value) → literal_reads value ≡ true → IsRead schema (record { is_leaf = true; from_zero = is_from_zero value; tree = value_tree value }) (roll-Expr (e.Lit value))
 value_read schema Null r = record { stands = λ g n h. (refl, refl); leaf = λ l g n. (refl, refl); plain = λ p. refl; means = refl }
@@ -63,7 +57,7 @@ cell_read schema column r = record {
   where
     found : (o : Option ℕ) → is_column column o ≡ true → column_or_0 o ≡ column
     found None h = cc
-    found (Some n) h = same n column h
+    found (Some n) h = equal n column h
 
 operand_at : (schema : Schema) (x : WrittenExpr) (expr : Expr) → IsRead schema x expr → (g : Setting) (n : ℕ) → IsAt g n false (operand x)
 operand_at schema x expr i g n = by_leaf x.is_leaf refl
@@ -72,7 +66,7 @@ operand_at schema x expr i g n = by_leaf x.is_leaf refl
     by_leaf true l = i.leaf l g n
     by_leaf false l = (refl, refl, i.stands g 1 (omega arith))
 
-enclosed_means : (schema : Schema) (x : Shape) (term : Term) (b : Bool) → made (terms schema) x ≡ term → made (terms schema) (enclosed b x) ≡ term
+pub enclosed_means : (schema : Schema) (x : Shape) (term : Term) (b : Bool) → made (terms schema) x ≡ term → made (terms schema) (enclosed b x) ≡ term
 enclosed_means schema x term true h = h
 enclosed_means schema x term false h = h
 

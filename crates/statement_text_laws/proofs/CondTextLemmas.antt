@@ -27,7 +27,8 @@ use Rattle.statement_text.specs.ConditionTexts.{op_text, null_test_text, key_col
 use Rattle.statement_text_laws.specs.Canonical.{placeless, in_parentheses, enclosed, value_tree, two_values, row_tokens, expr_written, expr_tree, WrittenCond, null_words, left_of_and, left_of_or, on_the_right, cond_written_at, cond_written}
 use Rattle.statement_text_laws.specs.SpelledWords.{Spelled, words_of, ends_token, expr_spells, literal_spells, key_spells, cond_spells_at, cond_spells, HasNames, CondsAreSpelled}
 use Rattle.statement_text_laws.proofs.SpelledLemmas.{joined, spaced, one, before_others, stops}
-use Rattle.statement_text_laws.proofs.ExprTextLemmas.{open_token, close_token, value_spelled, both, words_on, enclosed_spelled, some_enclosed, no_words, Written, expr_is_spelled}
+use Rattle.statement_text_laws.proofs.ExprTextLemmas.{open_token, close_token, value_spelled, words_on, enclosed_spelled, some_enclosed, no_words, Written, expr_is_spelled}
+use Rattle.statement_grammar.proofs.BasicLemmas.{both}
 
 -- a word between spaces
 pub between : (word : Word) (letters : List ℕ) (words : List Word) (bytes rest : List ℕ) → TokenAt false word letters ((32 ∷ bytes) ++ rest) → (words ≡ [] → ⊥) → Spelled words bytes rest → Spelled (word ∷ words) (32 ∷ (letters ++ (32 ∷ bytes))) rest

@@ -18,7 +18,8 @@ use Rattle.statement_grammar.specs.Sentence.{Keys, setting}
 use Rattle.statement_grammar.specs.FirstFault.{keys_of}
 use Rattle.statement_grammar.specs.Terms.{Term, OfCond, terms, expr_in, cond_in, is_negated, key_values}
 use Rattle.statement_text_laws.specs.Canonical.{placeless, enclosed, value_tree, expr_written, expr_tree, expr_reads, WrittenCond, term, null_words, row_tokens, left_of_and, left_of_or, on_the_right, cond_written_at, cond_written, key_literal_reads, key_reads, cond_reads_at, cond_reads, CondsAreReadBack}
-use Rattle.statement_text_laws.proofs.CanonicalLemmas.{IsRead, both, least, expr_is_read}
+use Rattle.statement_text_laws.proofs.CanonicalLemmas.{IsRead, least, expr_is_read, enclosed_means}
+use Rattle.statement_grammar.proofs.BasicLemmas.{both}
 
 -- a written condition may stand where what binds as loosely as it may
 record CondIsRead (schema : Schema) (x : WrittenCond) (condition : Cond) : Type 0 where
@@ -133,10 +134,6 @@ key_read schema op key r =
         (literal_means x (placeless w.Comma) (tokens_of (value_tree y) ++ placeless w.Close ∷ []) p.0 ∙ ap (λ (vs : List Value). x ∷ vs) (second_means y p.1))
 
 -- ---- NOT, AND, OR
-
-enclosed_means : (schema : Schema) (x : Shape) (t : Term) (b : Bool) → made (terms schema) x ≡ t → made (terms schema) (enclosed b x) ≡ t
-enclosed_means schema x t true h = h
-enclosed_means schema x t false h = h
 
 not_read : (schema : Schema) (x : WrittenCond) (condition : Cond) → CondIsRead schema x condition → CondIsRead schema (cond_written_at schema (c.Not x)) (roll-Cond (c.Not condition))
 not_read schema x condition i =

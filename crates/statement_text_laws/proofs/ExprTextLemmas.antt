@@ -27,10 +27,7 @@ use Rattle.statement_text_laws.specs.Canonical.{placeless, enclosed, value_tree,
 use Rattle.statement_text_laws.specs.SpelledWords.{Spelled, words_of, ends_token, are_text_bytes, literal_spells, expr_spells_at, expr_spells, HasNames, ExprsAreSpelled}
 use Rattle.statement_tokens.proofs.NumberLemmas.{decimal_spells}
 use Rattle.statement_text_laws.proofs.SpelledLemmas.{joined, spaced, one, before_others, stops}
-
-pub both : (a b : Bool) → (a && b) ≡ true → (a ≡ true) × (b ≡ true)
-both true b r = (refl, r)
-both false b r = cc
+use Rattle.statement_grammar.proofs.BasicLemmas.{both}
 
 -- ---- signs
 

@@ -2,7 +2,6 @@
 use Rattle.std.proofs.Common.{◌≡◌, ℕ, ◌+◌, Bool, true, false, List, [], ◌∷◌, ◌++◌, refl, sym, ◌∙◌, ap, subst, length, arith, append_assoc, append-nil}
 use Rattle.std.specs.Prelude.{◌==◌, ◌||◌}
 use Rattle.std.specs.Char.{is_ascii_digit}
-use Rattle.std.proofs.lemmas.Bool.Decides.{nat_tests}
 use Rattle.ptc_statement.specs.declared.expressions.Op.TheVariants as op
 use Rattle.statement_tokens.specs.declared.words.Token.{Token}
 use Rattle.statement_tokens.specs.declared.words.Word.{Word}
@@ -11,6 +10,7 @@ use Rattle.statement_tokens.specs.declared.text_ends.TextEnd.TheVariants.{Whole}
 use Rattle.statement_tokens.specs.Spellings.{StopsAtEnd, goes_on, is_word_byte}
 use Rattle.statement_tokens.specs.Tokens.{TokenAt, InBits, AreTokens, is_behind_sign}
 use Rattle.statement_text_laws.specs.SpelledWords.{Spelled, words_of, WordsAreRead, ends_token}
+use Rattle.statement_grammar.proofs.BasicLemmas.{equal}
 
 -- ---- tokens
 
@@ -104,21 +104,18 @@ ends_all byte w.Comma e = refl
 ends_all byte w.Semicolon e = refl
 ends_all byte _ e = e.word
 
-same : (a b : ℕ) → (a == b) ≡ true → a ≡ b
-same a b h = grind (arith, nat_tests)
-
 pub stops : (word : Word) (rest : List ℕ) → ends_token rest ≡ true → StopsAtEnd word rest
 stops word [] h = tt
 stops word (byte ∷ bytes) h = by_space (byte == 32) refl h
   where
     by_comma : (b : Bool) → (byte == 44) ≡ b → b ≡ true → goes_on word byte ≡ false
-    by_comma true t e = ap (goes_on word) (same byte 44 t) ∙ ends_all 44 word (record { digit = refl; word = refl; quote = refl; equals = refl; greater = refl })
+    by_comma true t e = ap (goes_on word) (equal byte 44 t) ∙ ends_all 44 word (record { digit = refl; word = refl; quote = refl; equals = refl; greater = refl })
     by_comma false t e = cc
 
     by_close : (b : Bool) → (byte == 41) ≡ b → (b || byte == 44) ≡ true → goes_on word byte ≡ false
-    by_close true t e = ap (goes_on word) (same byte 41 t) ∙ ends_all 41 word (record { digit = refl; word = refl; quote = refl; equals = refl; greater = refl })
+    by_close true t e = ap (goes_on word) (equal byte 41 t) ∙ ends_all 41 word (record { digit = refl; word = refl; quote = refl; equals = refl; greater = refl })
     by_close false t e = by_comma (byte == 44) refl e
 
     by_space : (b : Bool) → (byte == 32) ≡ b → (b || (byte == 41 || byte == 44)) ≡ true → goes_on word byte ≡ false
-    by_space true t e = ap (goes_on word) (same byte 32 t) ∙ ends_all 32 word (record { digit = refl; word = refl; quote = refl; equals = refl; greater = refl })
+    by_space true t e = ap (goes_on word) (equal byte 32 t) ∙ ends_all 32 word (record { digit = refl; word = refl; quote = refl; equals = refl; greater = refl })
     by_space false t e = by_close (byte == 41) refl e

@@ -36,8 +36,9 @@ use Rattle.statement_text_laws.specs.Canonical.{expr_tree, name_at}
 use Rattle.statement_text_laws.specs.StatementWords.{are_plain, edge_words, kind_word, span_words, edge_spells, assignment_words, assignments_words_on, assignments_words, assignment_spells, assignments_spell, value_words, values_words_on, row_words, where_words, lock_words, statement_words, values_spell, where_spells, StatementsAreSpelled}
 use Rattle.statement_tokens.proofs.NumberLemmas.{decimal_spells}
 use Rattle.statement_text_laws.proofs.SpelledLemmas.{joined, spaced, one, before_others, stops}
-use Rattle.statement_text_laws.proofs.ExprTextLemmas.{number_token, expr_is_spelled, cell_written, both, open_token, close_token, value_spelled}
+use Rattle.statement_text_laws.proofs.ExprTextLemmas.{number_token, expr_is_spelled, cell_written, open_token, close_token, value_spelled}
 use Rattle.statement_text_laws.proofs.CondTextLemmas.{between, comma_token, some_value, name_spelled, cond_is_spelled}
+use Rattle.statement_grammar.proofs.BasicLemmas.{both}
 
 -- ---- rows
 

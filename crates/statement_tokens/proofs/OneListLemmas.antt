@@ -8,12 +8,10 @@ use Rattle.statement_tokens.specs.declared.text_ends.TextEnd.{TextEnd}
 use Rattle.statement_tokens.specs.declared.text_ends.TextEnd.TheVariants.{Whole, NoToken as StopsBefore}
 use Rattle.statement_tokens.specs.FirstToken.{first_token}
 use Rattle.statement_tokens.specs.Tokens.{TokenAt, BeginsBare, AreSpaces, EndsAt, EndsSo, AreTokens, is_behind_sign}
+use Rattle.statement_tokens.proofs.ReservedLemmas.{some_is}
 use Rattle.statement_tokens.proofs.FirstLemmas.{complete}
 
-some_is : {A : Type 0} (x y : A) → Some x ≡ Some y → x ≡ y
-some_is x y e = cc
-
-none_some : {A : Type 0} (x : A) → None ≡ Some x → ⊥
+pub none_some : {A : Type 0} (x : A) → None ≡ Some x → ⊥
 none_some x e = cc
 
 -- ---- spaces before a token
