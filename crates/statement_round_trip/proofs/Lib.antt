@@ -9,3 +9,4 @@ pub mod StatementReadLemmas
 pub mod CrcLemmas
 pub mod ToolReadLemmas
 pub mod RoundTripLemmas
+pub mod DigestLemmas

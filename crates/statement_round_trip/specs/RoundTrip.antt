@@ -8,7 +8,9 @@ use Rattle.row_types.specs.declared.digests.DigestKind.{DigestKind}
 use Rattle.row_types.specs.declared.digests.DigestKind.TheVariants.{Md5, Sha1}
 use Rattle.row_types.specs.declared.table_schema.Column.{Column}
 use Rattle.row_types.specs.declared.table_schema.Schema.{Schema}
-use Rattle.row_types.specs.Fit.{ValuesFit, IsSchema}
+use Rattle.row_types.specs.KeyRows.{Row, Rows}
+use Rattle.row_digest.specs.Digest.{digest_of}
+use Rattle.row_types.specs.Fit.{RowFits, ValuesFit, IsSchema, key_of}
 use Rattle.ptc_statement.specs.declared.statements.Statement.{Statement}
 use Rattle.ptc_statement.specs.declared.statements.Statement.TheVariants.{Insert, Replace, Delete, Update, LockRead, Check, SetMaster, ClearChecks}
 use Rattle.ptc_statement.specs.Fits.{FitsSchemas}
@@ -82,3 +84,13 @@ abbrev pub TextsDiffer : Type 0
 TextsDiffer =
     (schemas : List Schema) (statement other : Statement) → AreNamed schemas → IsSayable schemas statement → IsSayable schemas other
     → statement_text schemas statement ≡ statement_text schemas other → statement ≡ other
+
+-- ---- what the checksum tool makes
+
+-- the checksum of rows can be said
+abbrev pub ChecksumsAreSaid : Type 0
+ChecksumsAreSaid = (kind : DigestKind) (rows : Rows) → IsXor kind (digest_of kind rows).xor
+
+-- so can an edge at a row of the table
+abbrev pub KeysAreSaid : Type 0
+KeysAreSaid = (schema : Schema) (row : Row) → RowFits schema row → ValuesFit (take schema.key_len schema.columns) (key_of schema row)

@@ -3,4 +3,4 @@
 
 mod laws;
 
-pub use laws::written_is_read;
+pub use laws::{tool_can_be_said, written_is_read};
