@@ -63,15 +63,16 @@ compared_is : (schema : Schema) (l r : Part) → kinds.breach schema l r ≡ com
 compared_is schema l r =
     ap (λ (b : Bool). option_or (kinds.text_operand schema l) (option_or (kinds.text_operand schema r) (kinds.when_true b (kinds.begins_at r)))) (differ_is (kinds.sort_of schema l) (kinds.sort_of schema r))
 
-abbrev facts : ℕ → ℕ → Sort → Option ℕ → Option ℕ → Facts
-facts high place sort text breach = record { height = high; place = place; sort = sort; text = text; breach = breach }
+abbrev facts : ℕ → ℕ → Sort → Option ℕ → Option ℕ → Option ℕ → Facts
+facts high place sort text breach unknown = record { height = high; place = place; sort = sort; text = text; breach = breach; unknown = unknown }
 
-same_facts : (a b place : ℕ) (sort : Sort) (text breach text_too breach_too : Option ℕ) → a ≡ b → text ≡ text_too → breach ≡ breach_too
-    → facts a place sort text breach ≡ facts b place sort text_too breach_too
-same_facts a b place sort text breach text_too breach_too high first broken =
-    ap (λ (n : ℕ). facts n place sort text breach) high
-    ∙ ap (λ (o : Option ℕ). facts b place sort o breach) first
-    ∙ ap (λ (o : Option ℕ). facts b place sort text_too o) broken
+same_facts : (a b place : ℕ) (sort : Sort) (text breach unknown text_too breach_too unknown_too : Option ℕ) → a ≡ b → text ≡ text_too → breach ≡ breach_too → unknown ≡ unknown_too
+    → facts a place sort text breach unknown ≡ facts b place sort text_too breach_too unknown_too
+same_facts a b place sort text breach unknown text_too breach_too unknown_too high first broken named =
+    ap (λ (n : ℕ). facts n place sort text breach unknown) high
+    ∙ ap (λ (o : Option ℕ). facts b place sort o breach unknown) first
+    ∙ ap (λ (o : Option ℕ). facts b place sort text_too o unknown) broken
+    ∙ ap (λ (o : Option ℕ). facts b place sort text_too breach_too o) named
 
 one_higher : (n : ℕ) → min 65 (n + 1) ≡ min 65 (min 65 n + 1)
 one_higher n = omega arith
@@ -103,22 +104,29 @@ leaves = record { gap = λ schema. refl; leaf = λ schema t. refl }
 pub signs : SignsHaveFacts
 signs schema t x =
     same_facts (min 65 (height x + 1)) (min 65 (min 65 (height x) + 1)) t.place Number
-    (option_or (kinds.text_operand schema x) (kinds.own_text schema x)) (least_of (kinds.sign_breaches schema t.word x (kinds.breaches schema x))) (text_in (facts_of schema x)) (sign_breach t.word (facts_of schema x))
-    (one_higher (height x)) (text_is schema x) (sign_breach_is schema t.word x)
+    (option_or (kinds.text_operand schema x) (kinds.own_text schema x)) (least_of (kinds.sign_breaches schema t.word x (kinds.breaches schema x))) (least_of (kinds.unknown_in schema x))
+    (text_in (facts_of schema x)) (sign_breach t.word (facts_of schema x)) (least_of (kinds.unknown_in schema x))
+    (one_higher (height x)) (text_is schema x) (sign_breach_is schema t.word x) refl
+
+unknown_of_two : (schema : Schema) (l r : Part) → least_of (kinds.unknown_in schema l ++ kinds.unknown_in schema r) ≡ least (least_of (kinds.unknown_in schema l)) (least_of (kinds.unknown_in schema r))
+unknown_of_two schema l r = least_more (kinds.unknown_in schema l) (kinds.unknown_in schema r)
 
 pub pairs : PairsHaveFacts
 pairs schema l t r =
     same_facts (min 65 (max (height l) (height r) + 1)) (min 65 (max (min 65 (height l)) (min 65 (height r)) + 1)) (kinds.begins_at l) Number
     (option_or (kinds.text_operand schema l) (option_or (kinds.own_text schema l) (option_or (kinds.text_operand schema r) (kinds.own_text schema r))))
     (least_of (kinds.joined_breaches schema t.word l r (kinds.breaches schema l) (kinds.breaches schema r)))
+    (least_of (kinds.unknown_in schema l ++ kinds.unknown_in schema r))
     (option_or (text_in (facts_of schema l)) (text_in (facts_of schema r))) (two_breach t.word (facts_of schema l) (facts_of schema r))
-    (higher_of_two (height l) (height r)) (texts_are schema l r) (two_breach_is schema t.word l r)
+    (least (least_of (kinds.unknown_in schema l)) (least_of (kinds.unknown_in schema r)))
+    (higher_of_two (height l) (height r)) (texts_are schema l r) (two_breach_is schema t.word l r) (unknown_of_two schema l r)
 
 pub lowers : LowersHaveFacts
 lowers schema x b l =
     same_facts (min 65 (max (height x) (height l) + 2)) (min 65 (max (min 65 (height x)) (min 65 (height l)) + 2)) (kinds.begins_at x) Any
-    None (least_of (kinds.places (kinds.breach schema x l))) None (compared (facts_of schema x) (facts_of schema l))
-    (higher_by_two (height x) (height l)) refl (least_one (kinds.breach schema x l) ∙ compared_is schema x l)
+    None (least_of (kinds.places (kinds.breach schema x l))) (least_of (kinds.unknown_in schema x ++ kinds.unknown_in schema l))
+    None (compared (facts_of schema x) (facts_of schema l)) (least (least_of (kinds.unknown_in schema x)) (least_of (kinds.unknown_in schema l)))
+    (higher_by_two (height x) (height l)) refl (least_one (kinds.breach schema x l) ∙ compared_is schema x l) (unknown_of_two schema x l)
 
 both_breaches : (schema : Schema) (x l h : Part)
     → least_of (kinds.places (kinds.breach schema x l) ++ kinds.places (kinds.breach schema x h)) ≡ least (compared (facts_of schema x) (facts_of schema l)) (compared (facts_of schema x) (facts_of schema h))
@@ -127,18 +135,27 @@ both_breaches schema x l h =
     ∙ ap (λ (o : Option ℕ). least o (least_of (kinds.places (kinds.breach schema x h)))) (least_one (kinds.breach schema x l) ∙ compared_is schema x l)
     ∙ ap (λ (o : Option ℕ). least (compared (facts_of schema x) (facts_of schema l)) o) (least_one (kinds.breach schema x h) ∙ compared_is schema x h)
 
+unknown_of_three : (schema : Schema) (x l h : Part)
+    → least_of (kinds.unknown_in schema x ++ (kinds.unknown_in schema l ++ kinds.unknown_in schema h)) ≡ least (least_of (kinds.unknown_in schema x)) (least (least_of (kinds.unknown_in schema l)) (least_of (kinds.unknown_in schema h)))
+unknown_of_three schema x l h =
+    least_more (kinds.unknown_in schema x) (kinds.unknown_in schema l ++ kinds.unknown_in schema h)
+    ∙ ap (λ (o : Option ℕ). least (least_of (kinds.unknown_in schema x)) o) (unknown_of_two schema l h)
+
 pub ranges : RangesHaveFacts
 ranges schema x b l a h =
     same_facts (min 65 (max (height x) (max (height l) (height h)) + 2)) (min 65 (max (min 65 (height x)) (max (min 65 (height l)) (min 65 (height h))) + 2)) (kinds.begins_at x) Any
-    None (least_of (kinds.places (kinds.breach schema x l) ++ kinds.places (kinds.breach schema x h))) None
-    (least (compared (facts_of schema x) (facts_of schema l)) (compared (facts_of schema x) (facts_of schema h)))
-    (higher_of_three (height x) (height l) (height h)) refl (both_breaches schema x l h)
+    None (least_of (kinds.places (kinds.breach schema x l) ++ kinds.places (kinds.breach schema x h)))
+    (least_of (kinds.unknown_in schema x ++ (kinds.unknown_in schema l ++ kinds.unknown_in schema h)))
+    None (least (compared (facts_of schema x) (facts_of schema l)) (compared (facts_of schema x) (facts_of schema h)))
+    (least (least_of (kinds.unknown_in schema x)) (least (least_of (kinds.unknown_in schema l)) (least_of (kinds.unknown_in schema h))))
+    (higher_of_three (height x) (height l) (height h)) refl (both_breaches schema x l h) (unknown_of_three schema x l h)
 
 pub null_tests : NullTestsHaveFacts
 null_tests schema x i =
     same_facts (min 65 (height x + 1)) (min 65 (min 65 (height x) + 1)) (kinds.begins_at x) Any
-    None (least_of (kinds.places (kinds.text_operand schema x))) None (kinds.text_operand schema x)
-    (one_higher (height x)) refl (least_one (kinds.text_operand schema x))
+    None (least_of (kinds.places (kinds.text_operand schema x))) (least_of (kinds.unknown_in schema x))
+    None (kinds.text_operand schema x) (least_of (kinds.unknown_in schema x))
+    (one_higher (height x)) refl (least_one (kinds.text_operand schema x)) refl
 
 pub parens : ParensHaveFacts
 parens schema o x = refl

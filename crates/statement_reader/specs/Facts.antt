@@ -33,6 +33,7 @@ facts_of schema part = record {
   sort = as_sort (kinds.sort_of schema part);
   text = kinds.text_operand schema part;
   breach = least_of (kinds.breaches schema part);
+  unknown = least_of (kinds.unknown_in schema part);
 }
 
 -- whether a number meets a text
@@ -53,15 +54,15 @@ text_in x = option_or x.text (place_of_text x.sort x.place)
 abbrev pub compared : Facts → Facts → Option ℕ
 compared l r = option_or l.text (option_or r.text (kinds.when_true (sorts_differ l.sort r.sort) r.place))
 
-abbrev pub leaf_facts : ℕ → Sort → Facts
-leaf_facts place sort = record { height = 1; place = place; sort = sort; text = None; breach = None }
+abbrev pub leaf_facts : ℕ → Sort → Option ℕ → Facts
+leaf_facts place sort unknown = record { height = 1; place = place; sort = sort; text = None; breach = None; unknown = unknown }
 
 abbrev pub sign_breach : Word → Facts → Option ℕ
 sign_breach w.Not x = x.breach
 sign_breach word x = text_in x
 
 abbrev pub sign_facts : Word → ℕ → Facts → Facts
-sign_facts word place x = record { height = min 65 (x.height + 1); place = place; sort = Number; text = text_in x; breach = sign_breach word x }
+sign_facts word place x = record { height = min 65 (x.height + 1); place = place; sort = Number; text = text_in x; breach = sign_breach word x; unknown = x.unknown }
 
 abbrev pub two_breach : Word → Facts → Facts → Option ℕ
 two_breach w.And l r = least l.breach r.breach
@@ -70,16 +71,16 @@ two_breach (w.Compare o) l r = compared l r
 two_breach word l r = option_or (text_in l) (text_in r)
 
 abbrev pub two_facts : Word → Facts → Facts → Facts
-two_facts word l r = record { height = min 65 (max l.height r.height + 1); place = l.place; sort = Number; text = option_or (text_in l) (text_in r); breach = two_breach word l r }
+two_facts word l r = record { height = min 65 (max l.height r.height + 1); place = l.place; sort = Number; text = option_or (text_in l) (text_in r); breach = two_breach word l r; unknown = least l.unknown r.unknown }
 
 abbrev pub lower_facts : Facts → Facts → Facts
-lower_facts x l = record { height = min 65 (max x.height l.height + 2); place = x.place; sort = Any; text = None; breach = compared x l }
+lower_facts x l = record { height = min 65 (max x.height l.height + 2); place = x.place; sort = Any; text = None; breach = compared x l; unknown = least x.unknown l.unknown }
 
 abbrev pub range_facts : Facts → Facts → Facts → Facts
-range_facts x l h = record { height = min 65 (max x.height (max l.height h.height) + 2); place = x.place; sort = Any; text = None; breach = least (compared x l) (compared x h) }
+range_facts x l h = record { height = min 65 (max x.height (max l.height h.height) + 2); place = x.place; sort = Any; text = None; breach = least (compared x l) (compared x h); unknown = least x.unknown (least l.unknown h.unknown) }
 
 abbrev pub nullness_facts : Facts → Facts
-nullness_facts x = record { height = min 65 (x.height + 1); place = x.place; sort = Any; text = None; breach = x.text }
+nullness_facts x = record { height = min 65 (x.height + 1); place = x.place; sort = Any; text = None; breach = x.text; unknown = x.unknown }
 
 abbrev pub paren_facts : ℕ → Facts → Facts
-paren_facts place x = record { height = x.height; place = place; sort = x.sort; text = x.text; breach = x.breach }
+paren_facts place x = record { height = x.height; place = place; sort = x.sort; text = x.text; breach = x.breach; unknown = x.unknown }

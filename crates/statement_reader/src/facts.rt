@@ -1,4 +1,4 @@
-ghost use Rattle.std.specs.Prelude.{◌≡◌, ◌≤◌, ◌+◌, min, max};
+ghost use Rattle.std.specs.Prelude.{◌≡◌, ◌+◌, min, max, None};
 ghost use Rattle.std.specs.Option.{option_or};
 ghost use Rattle.statement_reader.specs.Facts.{compared, least, leaf_facts, lower_facts, nullness_facts, paren_facts, place_of_text, range_facts, sign_breach, sign_facts, sorts_differ, text_in, two_breach, two_facts};
 ghost use Rattle.statement_reader.specs.declared.facts.Sort.TheVariants.{Any};
@@ -15,7 +15,8 @@ pub enum Sort {
 
 /// What the rules on kinds and heights ask of a tree: how high it is, where 65 stands for more than 64; the
 /// place of its first byte; what it holds; the place of the first operand of arithmetic in it that is a text; and,
-/// as a condition, the first place in it that breaks the rules on kinds. Places are bytes from 1.
+/// as a condition, the first place in it that breaks the rules on kinds; and the first name in it that is no
+/// column. Places are bytes from 1.
 #[derive(Clone, Copy, Debug, PartialEq, Eq)]
 pub struct Facts {
     pub height: u32,
@@ -23,13 +24,13 @@ pub struct Facts {
     pub sort: Sort,
     pub text: Option<u32>,
     pub breach: Option<u32>,
+    pub unknown: Option<u32>,
 }
 
 /// The most that a tree may be high.
 pub const MOST_HEIGHT: u32 = 64;
 
 fn higher(height: u32) -> u32
-    requires { height ≤ 65 }
     ensures { result ≡ min 65 (height + 1) }
 {
     if height > MOST_HEIGHT { 65 } else { height + 1 }
@@ -56,7 +57,8 @@ fn lesser(a: u32, b: u32) -> u32
     if b < a { b } else { a }
 }
 
-fn least_place(a: Option<u32>, b: Option<u32>) -> Option<u32>
+/// The lesser of two places, where there are two.
+pub fn least_place(a: Option<u32>, b: Option<u32>) -> Option<u32>
     ensures { result ≡ least a b }
 {
     match a {
@@ -88,13 +90,14 @@ pub fn differ(a: Sort, b: Sort) -> bool
 impl Facts {
     /// Of an operand that is not read yet.
     pub fn gap() -> Facts
-        ensures { result ≡ leaf_facts 0 Any }
+        ensures { result ≡ leaf_facts 0 Any None }
     {
-        Facts::leaf(0, Sort::Any)
+        Facts::leaf(0, Sort::Any, None)
     }
 
-    pub fn leaf(place: u32, sort: Sort) -> Facts
-        ensures { result ≡ leaf_facts place sort }
+    /// Of an operand of one word, or of a number and its sign.
+    pub fn leaf(place: u32, sort: Sort, unknown: Option<u32>) -> Facts
+        ensures { result ≡ leaf_facts place sort unknown }
     {
         Facts {
             height: 1,
@@ -102,6 +105,7 @@ impl Facts {
             sort,
             text: None,
             breach: None,
+            unknown,
         }
     }
 
@@ -145,7 +149,6 @@ impl Facts {
 
     /// Of NOT or a `-` before an operand.
     pub fn sign(token: &Token, operand: Facts) -> Facts
-        requires { operand.height ≤ 65 }
         ensures { result ≡ sign_facts token.now.word token.now.place operand }
     {
         Facts {
@@ -154,6 +157,7 @@ impl Facts {
             sort: Sort::Number,
             text: operand.first_text(),
             breach: Facts::sign_breach(&token.word, operand),
+            unknown: operand.unknown,
         }
     }
 
@@ -169,8 +173,6 @@ impl Facts {
 
     /// Of two operands and the word between them.
     pub fn two(self, word: &Word, right: Facts) -> Facts
-        requires left { self.height ≤ 65 }
-        requires right { right.height ≤ 65 }
         ensures { result ≡ two_facts word.now self right }
     {
         Facts {
@@ -179,13 +181,12 @@ impl Facts {
             sort: Sort::Number,
             text: first_place(self.first_text(), right.first_text()),
             breach: self.two_breach(word, right),
+            unknown: least_place(self.unknown, right.unknown),
         }
     }
 
     /// Of BETWEEN whose upper end is not read yet.
     pub fn lower(self, low: Facts) -> Facts
-        requires value { self.height ≤ 65 }
-        requires low { low.height ≤ 65 }
         ensures { result ≡ lower_facts self low }
     {
         Facts {
@@ -194,14 +195,12 @@ impl Facts {
             sort: Sort::Any,
             text: None,
             breach: self.compared_with(low),
+            unknown: least_place(self.unknown, low.unknown),
         }
     }
 
     /// Of BETWEEN.
     pub fn range(self, low: Facts, high: Facts) -> Facts
-        requires value { self.height ≤ 65 }
-        requires low { low.height ≤ 65 }
-        requires high { high.height ≤ 65 }
         ensures { result ≡ range_facts self low high }
     {
         Facts {
@@ -210,12 +209,12 @@ impl Facts {
             sort: Sort::Any,
             text: None,
             breach: least_place(self.compared_with(low), self.compared_with(high)),
+            unknown: least_place(self.unknown, least_place(low.unknown, high.unknown)),
         }
     }
 
     /// Of IS NULL and IS NOT NULL.
     pub fn nullness(self) -> Facts
-        requires { self.height ≤ 65 }
         ensures { result ≡ nullness_facts self }
     {
         Facts {
@@ -224,6 +223,7 @@ impl Facts {
             sort: Sort::Any,
             text: None,
             breach: self.text,
+            unknown: self.unknown,
         }
     }
 
@@ -237,6 +237,7 @@ impl Facts {
             sort: self.sort,
             text: self.text,
             breach: self.breach,
+            unknown: self.unknown,
         }
     }
 }
