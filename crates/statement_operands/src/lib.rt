@@ -1,0 +1,12 @@
+//! What is kept of the parts of an expression or a condition that are read.
+#![tactic(auto)]
+
+mod leaves;
+mod operands;
+mod pairs;
+mod row_tests;
+
+pub use leaves::{leaf, names_first, names_second, signed};
+pub use operands::{Operand, Tree, paren};
+pub use pairs::{nullness, range, sign, two};
+pub use row_tests::row_test;
