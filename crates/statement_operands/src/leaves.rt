@@ -23,7 +23,8 @@ fn leaf_expr(schema: &Schema, word: Word) -> Expr
     }
 }
 
-fn leaf_facts(schema: &Schema, token: &Token) -> Facts
+/// The facts of a column or a literal.
+pub fn leaf_facts(schema: &Schema, token: &Token) -> Facts
     requires { length schema.now.columns < 2 ^ 32 }
     ensures { result ≡ (leaf_operand schema.now token.now.word token.now.place).facts }
 {

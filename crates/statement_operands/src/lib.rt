@@ -6,7 +6,7 @@ mod operands;
 mod pairs;
 mod row_tests;
 
-pub use leaves::{leaf, names_first, names_second, signed};
+pub use leaves::{leaf, leaf_facts, names_first, names_second, signed};
 pub use operands::{Operand, Tree, paren};
 pub use pairs::{nullness, range, sign, two};
 pub use row_tests::row_test;

@@ -1,0 +1,4 @@
+pub mod Tops
+pub mod Levels
+pub mod Plugs
+pub mod Closes
