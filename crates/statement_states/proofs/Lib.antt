@@ -1,0 +1,4 @@
+pub mod FinishLemmas
+pub mod FollowLemmas
+pub mod OperandLemmas
+pub mod StepLemmas
