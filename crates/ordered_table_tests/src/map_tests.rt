@@ -45,6 +45,20 @@ fn is_same(found: Option<&Row>, id: i64, value: Option<i64>) -> bool {
     }
 }
 
+/// Whether each page has 1 to 64 rows, two neighbours have more than 64, and all have so many together.
+fn are_pages(lengths: &[usize], rows: usize) -> bool {
+    let mut before = 64usize;
+    let mut count = 0usize;
+    for length in lengths {
+        if *length == 0 || *length > 64 || before.saturating_add(*length) <= 64 {
+            return false;
+        }
+        before = *length;
+        count = count.saturating_add(*length);
+    }
+    count == rows
+}
+
 impl Both {
     fn new(alloc: Global) -> Both {
         Both {
@@ -90,6 +104,12 @@ impl Both {
     fn get(&self, alloc: Global, id: i64) -> R<bool> {
         let found = self.table.get(&key(alloc, id)?);
         Ok(is_same(found, id, self.map.get(&id).copied()))
+    }
+
+    /// Whether the table's rows stand in pages as they should.
+    fn has_pages(&self, alloc: Global) -> R<bool> {
+        let lengths = self.table.page_lengths(alloc)?;
+        Ok(are_pages(lengths.as_slice(), self.map.len()))
     }
 
     /// Whether both have the same, in the same order.
@@ -196,12 +216,13 @@ fn call(alloc: Global, both: &mut Both, which: u32, id: i64, v: i64) -> R<bool> 
 }
 
 /// Does 4,000 calls of the first so many kinds, each on one of 2,003 keys; a put stands in for the others.
+/// After each of them the pages are looked at.
 fn calls_agree(alloc: Global, both: &mut Both, draws: &mut Draws, kinds: u32) -> R<bool> {
     for number in 0..4_000i64 {
         let which = draws.draw() % 8;
         let id = (draws.draw() % 2_003) as i64;
         let which = if which < kinds { which } else { 0 };
-        if !call(alloc, both, which, id, number)? {
+        if !call(alloc, both, which, id, number)? || !both.has_pages(alloc)? {
             return Ok(false);
         }
     }

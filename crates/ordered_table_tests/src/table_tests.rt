@@ -334,3 +334,53 @@ fn pages_are_split_and_joined(rt: HostRuntime) -> Result<(), Fail> {
     assert!(rt; is_key(table.prev(&Edge::Before(key(alloc, 4)?)), Some(2)));
     Ok(())
 }
+
+/// Whether a page's length is there, and this one.
+fn is_length(found: Option<&usize>, want: usize) -> bool {
+    match found {
+        None => false,
+        Some(length) => *length == want,
+    }
+}
+
+/// A table that is made of rows in order has full pages, and what is left in a last one.
+#[test]
+fn rows_in_order_fill_pages(rt: HostRuntime) -> Result<(), Fail> {
+    let alloc = rt.alloc();
+    let table = many(alloc)?;
+    let copy = copy_of(alloc, &table)?;
+    let lengths = copy.page_lengths(alloc)?;
+    assert!(rt;
+        lengths.len() == 32 && is_length(lengths.first(), 64) && is_length(lengths.last(), 16)
+    );
+    Ok(())
+}
+
+/// Two hundred rows whose keys, of two numbers, begin with the same one.
+fn sharing(alloc: Global) -> R<Table> {
+    let mut table = Table::new(alloc, 2);
+    for number in 0..200u16 {
+        put(&mut table, row(alloc, 7, scattered(number))?)?;
+    }
+    Ok(table)
+}
+
+/// Whether each of these rows is found at its key.
+fn finds_all(alloc: Global, table: &Table) -> R<bool> {
+    for number in 0..200u16 {
+        let want = scattered(number);
+        let key = row(alloc, 7, want)?;
+        if !is_row(table.get_at(key.as_slice()), 7, want) {
+            return Ok(false);
+        }
+    }
+    Ok(true)
+}
+
+#[test]
+fn keys_share_their_first_value(rt: HostRuntime) -> Result<(), Fail> {
+    let alloc = rt.alloc();
+    let table = sharing(alloc)?;
+    assert!(rt; table.len() == 200 && finds_all(alloc, &table)?);
+    Ok(())
+}
