@@ -1,9 +1,8 @@
 -- What is written of a condition that fits has no fault.
-use Rattle.std.proofs.Common.{◌≡◌, ℕ, pos, negsuc, ◌+◌, max, Bool, true, false, List, [], ◌∷◌, ◌++◌, Option, None, Some, refl, sym, ◌∙◌, ap, subst, arith}
+use Rattle.std.proofs.Common.{◌≡◌, ℕ, pos, negsuc, ◌+◌, max, Bool, true, false, List, [], ◌∷◌, ◌++◌, Option, None, Some, refl, sym, ◌∙◌, ap, subst}
 use Rattle.std.specs.Prelude.{◌==◌, ◌&&◌, ◌||◌, not, take}
 use Rattle.std.specs.List.{slice_get}
 use Rattle.std.specs.Option.{option_or}
-use Rattle.std.proofs.lemmas.Bool.Decides.{nat_tests}
 use Rattle.row_types.specs.declared.values.Value.{Value}
 use Rattle.row_types.specs.declared.values.Value.TheVariants.{Null, Int, Text}
 use Rattle.row_types.specs.declared.table_schema.ColumnKind.{ColumnKind}
@@ -29,7 +28,7 @@ use Rattle.statement_text_laws.specs.SpelledWords.{literal_spells, expr_spells, 
 use Rattle.statement_round_trip.specs.RoundTrip.{HasOwnNames}
 use Rattle.statement_round_trip.proofs.PlacedLemmas.{none_of, empties, no_places}
 use Rattle.statement_round_trip.proofs.KindLemmas.{numbers_agree, texts_agree, never, ExprRight, expr_is_right, enclosed_height, enclosed_known, enclosed_kinds}
-use Rattle.statement_grammar.proofs.BasicLemmas.{both, both_true}
+use Rattle.statement_grammar.proofs.BasicLemmas.{both, both_true, equal}
 
 pub record CondRight (schema : Schema) (x : WrittenCond) (high : ℕ) (sound reads : Bool) : Type 0 where
   pub height_is : height (whole x.tree) ≡ high
@@ -119,9 +118,6 @@ of_kind schema column value e = by_kind column.kind value e
     by_kind (TextColumn max) (Int (negsuc n)) e = cc
     by_kind (TextColumn max) (Text text) e = refl
 
-two : (n : ℕ) → (n == 2) ≡ true → n ≡ 2
-two n h = grind (arith, nat_tests)
-
 -- the literals are of the kinds of the first two columns
 record KeyKinds (schema : Schema) (x y : Value) : Type 0 where
   first : Column
@@ -134,7 +130,7 @@ record KeyKinds (schema : Schema) (x y : Value) : Type 0 where
 key_kinds : (schema : Schema) (x y : Value) → ((schema.key_len == 2) && literals_fit (take schema.key_len schema.columns) (x ∷ y ∷ [])) ≡ true → KeyKinds schema x y
 key_kinds schema x y e =
     let q = both (schema.key_len == 2) (literals_fit (take schema.key_len schema.columns) (x ∷ y ∷ [])) e in
-    by_columns schema.columns refl (subst (λ (n : ℕ). literals_fit (take n schema.columns) (x ∷ y ∷ []) ≡ true) (two schema.key_len q.0) q.1)
+    by_columns schema.columns refl (subst (λ (n : ℕ). literals_fit (take n schema.columns) (x ∷ y ∷ []) ≡ true) (equal schema.key_len 2 q.0) q.1)
   where
     by_columns : (columns : List Column) → schema.columns ≡ columns → literals_fit (take 2 columns) (x ∷ y ∷ []) ≡ true → KeyKinds schema x y
     by_columns [] f h = absurd (false_true h)

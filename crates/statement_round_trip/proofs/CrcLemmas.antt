@@ -40,7 +40,7 @@ below (suc n) d h l = by_test (d == n) refl (λ more l. below n d more l)
 digit : (d : ℕ) → d < 16 → is_lower_digit (slice_index lower_digits d) ≡ true
 digit d l = below 16 d refl l
 
-digits : (xs : List ℕ) → IsBytes xs → are_lower_digits (encode_with lower_digits xs) ≡ true
+pub digits : (xs : List ℕ) → IsBytes xs → are_lower_digits (encode_with lower_digits xs) ≡ true
 unfolding encode_with
 digits [] h = refl
 digits (b ∷ xs) h =
@@ -52,18 +52,18 @@ digits (b ∷ xs) h =
 
 -- ---- lists of bytes
 
-taken_bytes : (n : ℕ) (xs : List ℕ) → IsBytes xs → (i : ℕ) → slice_index (take n xs) i < 256
+pub taken_bytes : (n : ℕ) (xs : List ℕ) → IsBytes xs → (i : ℕ) → slice_index (take n xs) i < 256
 taken_bytes zero xs h i = omega arith
 taken_bytes (suc n) [] h i = omega arith
 taken_bytes (suc n) (x ∷ xs) h zero = h 0
 taken_bytes (suc n) (x ∷ xs) h (suc i) = taken_bytes n xs (λ k. h (suc k)) i
 
-taken_long : (n : ℕ) (xs : List ℕ) → n ≤ length xs → length (take n xs) ≡ n
+pub taken_long : (n : ℕ) (xs : List ℕ) → n ≤ length xs → length (take n xs) ≡ n
 taken_long zero xs h = refl
 taken_long (suc n) [] h = absurd (omega arith)
 taken_long (suc n) (x ∷ xs) h = let i = taken_long n xs (omega arith) in omega arith
 
-take_front : (xs ys : List ℕ) (n k : ℕ) → n ≡ length xs + k → take n (xs ++ ys) ≡ xs ++ take k ys
+pub take_front : (xs ys : List ℕ) (n k : ℕ) → n ≡ length xs + k → take n (xs ++ ys) ≡ xs ++ take k ys
 take_front [] ys n k e = let f : n ≡ k = omega arith in ap (λ (m : ℕ). take m ys) f
 take_front (x ∷ xs) ys zero k e = absurd (omega arith)
 take_front (x ∷ xs) ys (suc n) k e = ap (λ (l : List ℕ). x ∷ l) (take_front xs ys n k (omega arith))

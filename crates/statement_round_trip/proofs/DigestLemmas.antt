@@ -19,7 +19,7 @@ use Rattle.statement_round_trip.specs.RoundTrip.{IsXor, ChecksumsAreSaid, KeysAr
 
 -- ---- bytes
 
-appended : (a b : List ℕ) → IsBytes a → IsBytes b → (i : ℕ) → slice_index (a ++ b) i < 256
+pub appended : (a b : List ℕ) → IsBytes a → IsBytes b → (i : ℕ) → slice_index (a ++ b) i < 256
 appended [] b h g i = g i
 appended (x ∷ a) b h g zero = h 0
 appended (x ∷ a) b h g (suc i) = appended a b (λ k. h (suc k)) g i
@@ -78,7 +78,7 @@ xored_behind n [] (h ∷ hs) e = refl
 xored_behind zero (x ∷ xs) (h ∷ hs) e = absurd (omega arith)
 xored_behind (suc n) (x ∷ xs) (h ∷ hs) e = xored_behind n xs hs (omega arith)
 
-zeros : (n i : ℕ) → slice_index (replicate n 0) i < 256
+pub zeros : (n i : ℕ) → slice_index (replicate n 0) i < 256
 zeros zero i = omega arith
 zeros (suc n) zero = omega arith
 zeros (suc n) (suc i) = zeros n i

@@ -96,7 +96,7 @@ pub record Same (s r : Shape) : Type 0 where
   pub kinds : (schema : Schema) → breaches schema (whole s) ≡ [] → breaches schema (whole r) ≡ []
   pub known : (schema : Schema) → unknown_in schema (whole s) ≡ [] → unknown_in schema (whole r) ≡ []
 
-neither : (a b : Option ℕ) → option_or a b ≡ None → (a ≡ None) × (b ≡ None)
+pub neither : (a b : Option ℕ) → option_or a b ≡ None → (a ≡ None) × (b ≡ None)
 neither None b e = (refl, e)
 neither (Some n) b e = cc
 
@@ -110,7 +110,7 @@ empty (x ∷ a) b e = cc
 pub empties : {A : Type 0} (a b : List A) → a ≡ [] → b ≡ [] → a ++ b ≡ []
 empties a b e f = rw (e, f) refl
 
-no_place : (a : Option ℕ) → places a ≡ [] → a ≡ None
+pub no_place : (a : Option ℕ) → places a ≡ [] → a ≡ None
 no_place None e = refl
 no_place (Some n) e = cc
 

@@ -131,7 +131,7 @@ length_more [] (x ∷ front) value column e = absurd (omega arith)
 length_more (v ∷ values) [] value column e = absurd (omega arith)
 length_more (v ∷ values) (x ∷ front) value column e = let i = length_more values front value column (omega arith) in omega arith
 
-no_comma : (of : Literals) (draft : Draft) → with_list of draft w.Comma ≡ draft
+pub no_comma : (of : Literals) (draft : Draft) → with_list of draft w.Comma ≡ draft
 no_comma OfRow draft = refl
 no_comma (OfEdge end) draft = refl
 

@@ -1,0 +1,10 @@
+pub mod PrintLemmas
+pub mod ExprFitLemmas
+pub mod RowFitLemmas
+pub mod CondFitLemmas
+pub mod ValueFitLemmas
+pub mod GoodLemmas
+pub mod EndFitLemmas
+pub mod StepFitLemmas
+pub mod TreeFitLemmas
+pub mod RootLemmas
