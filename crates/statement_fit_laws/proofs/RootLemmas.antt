@@ -8,10 +8,11 @@ use Rattle.statement_grammar.specs.Sentence.{Piece, One, Tree, pieces_tokens, Sp
 use Rattle.statement_grammar.specs.FirstFault.{first_name, keys_in}
 use Rattle.statement_grammar.specs.Draft.{Draft, nothing_known, with_token, with_tree, spot_or, tree_next, drafted, said_as}
 use Rattle.statement_grammar.specs.Faults.{token_faults, tree_faults, faults_from}
+use Rattle.statement_text.specs.StatementTexts.{statement_text}
 use Rattle.statement_round_trip.specs.RoundTrip.{IsSayable}
 use Rattle.statement_round_trip.proofs.PlacedLemmas.{empty}
 use Rattle.statement_round_trip.proofs.RoundTripLemmas.{written_is_read}
-use Rattle.statement_fit_laws.specs.ReadFits.{ReadIsSayable, ReadAgain}
+use Rattle.statement_fit_laws.specs.ReadFits.{ReadIsSayable, ReadAgain, SayableHasText}
 use Rattle.statement_fit_laws.proofs.PrintLemmas.{AllPrint, front_prints, back_prints, tokens_print}
 use Rattle.statement_fit_laws.proofs.GoodLemmas.{Good}
 use Rattle.statement_fit_laws.proofs.EndFitLemmas.{delete_ends, update_ends}
@@ -50,3 +51,7 @@ read_is_sayable schemas text statement is =
 
 pub read_again : ReadAgain
 read_again schemas text statement names is = written_is_read schemas statement names (read_is_sayable schemas text statement is)
+
+pub sayable_has_text : SayableHasText
+sayable_has_text schemas statement names =
+    (λ sayable. (statement_text schemas statement, written_is_read schemas statement names sayable), λ has. read_is_sayable schemas has.0 statement has.1)

@@ -1,5 +1,5 @@
 -- What is read fits.
-use Rattle.std.specs.Prelude.{ℕ, List}
+use Rattle.std.specs.Prelude.{◌↔◌, ℕ, List}
 use Rattle.row_types.specs.declared.table_schema.Schema.{Schema}
 use Rattle.ptc_statement.specs.declared.statements.Statement.{Statement}
 use Rattle.statement_grammar.specs.FirstFault.{IsText}
@@ -15,3 +15,7 @@ abbrev pub ReadAgain : Type 0
 ReadAgain =
     (schemas : List Schema) (text : List ℕ) (statement : Statement) → AreNamed schemas → IsText schemas text statement
     → IsText schemas (statement_text schemas statement) statement
+
+-- a statement has a text exactly where a text can say it
+abbrev pub SayableHasText : Type 0
+SayableHasText = (schemas : List Schema) (statement : Statement) → AreNamed schemas → IsSayable schemas statement ↔ ((text : List ℕ) × IsText schemas text statement)
