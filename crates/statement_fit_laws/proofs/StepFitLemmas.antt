@@ -39,6 +39,12 @@ use Rattle.statement_fit_laws.proofs.EndFitLemmas.{row_ends, delete_ends, update
 
 -- ---- the table
 
+at_first : (from n : ℕ) → from ≡ n → n ≡ from + 0
+at_first from n e = omega arith
+
+behind_first : (from n k : ℕ) → n ≡ suc from + k → n ≡ from + suc k
+behind_first from n k e = omega arith
+
 table_there : (from n : ℕ) (schemas : List Schema) (name : List ℕ) (schema : Schema) → table_from from schemas name ≡ Some (n, schema) → (k : ℕ) × (n ≡ from + k) × (slice_get schemas k ≡ Some schema)
 table_there from n [] name schema e = cc
 table_there from n (first ∷ schemas) name schema e = by_name (same_bytes first.name name) e (table_there (suc from) n schemas name schema)
@@ -47,9 +53,8 @@ table_there from n (first ∷ schemas) name schema e = by_name (same_bytes first
         → (k : ℕ) × (n ≡ from + k) × (slice_get (first ∷ schemas) k ≡ Some schema)
     by_name true e later =
         let h : (from, first) ≡ (n, schema) = some_is (from, first) (n, schema) e in
-        let a : from ≡ n = ap (λ (p : ℕ × Schema). p.0) h in
-        let b : n ≡ from + 0 = omega arith in (0, b, ap (λ (p : ℕ × Schema). Some p.1) h)
-    by_name false e later = let i = later e in let a = i.1 in (suc i.0, omega arith, i.2)
+        (0, at_first from n (ap (λ (p : ℕ × Schema). p.0) h), ap (λ (p : ℕ × Schema). Some p.1) h)
+    by_name false e later = let i = later e in (suc i.0, behind_first from n i.0 i.1, i.2)
 
 at_table : (schemas : List Schema) (key : Keys) (name : List ℕ) (d : Draft) (place : ℕ) (P : Draft → Type 0) → table_fault (table_from 0 schemas name) place ≡ [] → KeysOf schemas key name
     → ((table : ℕ) (schema : Schema) → Tabled schemas key table (Some schema) → P (record d { table = table; schema = Some schema })) → P (with_table d (table_from 0 schemas name))

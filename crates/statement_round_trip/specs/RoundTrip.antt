@@ -40,15 +40,15 @@ EdgeFits schema (After key) = ValuesFit (take schema.key_len schema.columns) key
 EdgeFits schema High = Unit {0}
 
 -- an MD5 has 16 bytes, and zeros behind them
-abbrev pub EndsAsIts : DigestKind → List ℕ → Type 0
-EndsAsIts Md5 xor = drop 16 xor ≡ replicate 4 0
-EndsAsIts Sha1 xor = Unit {0}
+abbrev pub IsPadded : DigestKind → List ℕ → Type 0
+IsPadded Md5 xor = drop 16 xor ≡ replicate 4 0
+IsPadded Sha1 xor = Unit {0}
 
 -- the twenty bytes of a checksum
 pub record IsXor (kind : DigestKind) (xor : List ℕ) : Type 0 where
   pub long : length xor ≡ 20
   pub bytes : IsBytes xor
-  pub ends : EndsAsIts kind xor
+  pub ends : IsPadded kind xor
 
 -- what the text of a statement does not show is as reading it gives it: a locking read is of the whole table
 abbrev pub IsSaid : Schema → Statement → Type 0
