@@ -14,7 +14,8 @@ use Rattle.lock_table.specs.declared.wants.Want.{Want}
 use Rattle.lock_table.specs.declared.wants.Want.TheVariants.{OnKey, OnGap, InsertAt}
 use Rattle.lock_table.specs.declared.wants.Holding.{Holding}
 use Rattle.lock_table.specs.Locks.{is_same_key, is_exclusive, is_excluded_by, is_foreign, excludes, lesser_owner, least_owner, excluder, with_want, released, IsHolding, Holds, IsLock, AreLocks, AreCompatible}
-use Rattle.lock_table.proofs.HoldLemmas.{number_is, number_apart, same_key_self, foreign_is, both_of, both_are, not_excluded, released_holds, holds_appended}
+use Rattle.lock_table.proofs.GapLemmas.{both_true}
+use Rattle.lock_table.proofs.HoldLemmas.{number_is, number_apart, same_key_self, foreign_is, both_of, not_excluded, released_holds, holds_appended}
 
 -- the owner that was found holds what excludes the want
 record Excluding (owner table by : ℕ) (want : Want) (held : List Holding) : Type 0 where
@@ -28,7 +29,7 @@ deeper_excluding owner table by want holding held is = record { apart = is.apart
 
 excluding_here : (owner table by : ℕ) (want : Want) (holding : Holding) (held : List Holding) → excludes owner table want holding ≡ true → holding.owner.0 ≡ by → Excluding owner table by want (holding ∷ held)
 excluding_here owner table by want holding held is same =
-    let both = both_are (is_foreign owner table holding) (is_excluded_by want holding.want) is in
+    let both = both_true (is_foreign owner table holding) (is_excluded_by want holding.want) is in
     let foreign = both_of (holding.owner.0 == owner) (holding.table == table) both.0 in
     record {
       apart = λ e. number_apart holding.owner.0 owner foreign.0 (same ∙ e);

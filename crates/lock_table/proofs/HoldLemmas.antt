@@ -11,6 +11,7 @@ use Rattle.row_types.specs.declared.lock_modes.LockMode.TheVariants.{Shared, Exc
 use Rattle.row_types.specs.declared.edges.Span.{Span}
 use Rattle.row_types.specs.Order.{key_cmp, has}
 use Rattle.row_types.proofs.OrderLemmas.{keys_exact, key_ties}
+use Rattle.lock_table.proofs.GapLemmas.{both_true}
 use Rattle.lock_table.specs.declared.wants.Want.{Want}
 use Rattle.lock_table.specs.declared.wants.Want.TheVariants.{OnKey, OnGap, InsertAt}
 use Rattle.lock_table.specs.declared.wants.Holding.{Holding}
@@ -199,14 +200,9 @@ still_holds owner other table want (holding ∷ held) apart (inr more) = at (hol
 
 -- the exclusive owner of a key
 
-pub both_are : (p q : Bool) → p && q ≡ true → (p ≡ true) × (q ≡ true)
-both_are true true is = (refl, refl)
-both_are true false is = cc
-both_are false q is = cc
-
 alone_want : (key : List Value) (want : Want) → is_alone_on key want ≡ true → want ≡ OnKey key Exclusive
-alone_want key (OnKey other Shared) is = let both = both_are (is_same_key key other) false is in let q : false ≡ true = both.1 in cc
-alone_want key (OnKey other Exclusive) is = let both = both_are (is_same_key key other) true is in ap (λ (k : List Value). OnKey k Exclusive) (sym (same_key_is key other both.0))
+alone_want key (OnKey other Shared) is = let both = both_true (is_same_key key other) false is in let q : false ≡ true = both.1 in cc
+alone_want key (OnKey other Exclusive) is = let both = both_true (is_same_key key other) true is in ap (λ (k : List Value). OnKey k Exclusive) (sym (same_key_is key other both.0))
 alone_want key (OnGap span) is = cc
 alone_want key (InsertAt other) is = cc
 
@@ -223,7 +219,7 @@ exclusive_found a table key (holding ∷ held) found = at (λ f. exclusive_found
     at : (exclusive_owner table key held ≡ Some a → Holds a table (OnKey key Exclusive) held) → (b : Bool) → ((holding.table == table) && is_alone_on key holding.want) ≡ b
         → cond b (Some holding.owner.0) (exclusive_owner table key held) ≡ Some a → Holds a table (OnKey key Exclusive) (holding ∷ held)
     at more true is f =
-        let both = both_are (holding.table == table) (is_alone_on key holding.want) is in
+        let both = both_true (holding.table == table) (is_alone_on key holding.want) is in
         inl (some_number holding.owner.0 a f, number_is holding.table table both.0, alone_want key holding.want both.1)
     at more false is f = inr (more f)
 

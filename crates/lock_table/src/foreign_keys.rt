@@ -1,6 +1,5 @@
 //! The keys on which other owners have locks, beside an edge.
 ghost use Rattle.std.specs.Prelude.{◌≡◌, option_copied};
-ghost use Rattle.row_types.specs.Order.{is_past_edge, is_before_edge};
 ghost use Rattle.lock_table.specs.Stops.{lesser_key, greater_key, least_key_past, greatest_key_before};
 ghost use Rattle.lock_table.specs.FoundKeys.{least_with, greatest_with, lesser_of, greater_of};
 ghost use Rattle.lock_table.specs.Locks.{foreign_keys, IsByOwner};
@@ -9,30 +8,6 @@ use crate::exclusion::is_foreign;
 use crate::holdings::others_of;
 use crate::wants::{Holding, Owner, Want};
 use row_types::{Edge, Key};
-
-/// Whether a key is past an edge.
-fn is_past(edge: &Edge, key: &Key) -> bool
-    ensures { result ≡ is_past_edge edge.now key.now }
-{
-    match edge {
-        Edge::Low => true,
-        Edge::Before(ours) => ours.compare(key).is_le(),
-        Edge::After(ours) => ours.compare(key).is_lt(),
-        Edge::High => false,
-    }
-}
-
-/// Whether a key is before an edge.
-fn is_before(edge: &Edge, key: &Key) -> bool
-    ensures { result ≡ is_before_edge edge.now key.now }
-{
-    match edge {
-        Edge::Low => false,
-        Edge::Before(ours) => key.compare(ours).is_lt(),
-        Edge::After(ours) => key.compare(ours).is_le(),
-        Edge::High => true,
-    }
-}
 
 /// The lesser of a key and another, if there is one.
 fn lesser_key<'a>(key: &'a Key, other: Option<&'a Key>) -> &'a Key
@@ -72,7 +47,7 @@ fn least_with<'a>(edge: &Edge, want: &'a Want, found: Option<&'a Key>) -> Option
 {
     match want {
         Want::OnKey { key, .. } => {
-            if is_past(edge, key) {
+            if edge.is_before(key.as_slice()) {
                 return Some(lesser_key(key, found));
             }
             found
@@ -86,7 +61,7 @@ fn greatest_with<'a>(edge: &Edge, want: &'a Want, found: Option<&'a Key>) -> Opt
 {
     match want {
         Want::OnKey { key, .. } => {
-            if is_before(edge, key) {
+            if edge.is_after(key.as_slice()) {
                 return Some(greater_key(key, found));
             }
             found

@@ -29,14 +29,15 @@ use Rattle.lock_table.specs.declared.wants.Want.TheVariants.{OnKey, OnGap}
 use Rattle.lock_table.specs.declared.wants.Holding.{Holding}
 use Rattle.lock_table.specs.Locks.{exclusive_owner, Holds}
 use Rattle.lock_table.proofs.GapLemmas.{both_true}
-use Rattle.lock_table.proofs.HoldLemmas.{same_or_apart, both_are, number_is, exclusive_found, exclusive_none}
+use Rattle.lock_table.proofs.HoldLemmas.{same_or_apart, number_is, exclusive_found, exclusive_none}
 use Rattle.node_model.specs.Kept.{FactsOf, IsKept, TablesOf, TxnFits, WalkFits}
 use Rattle.node_model.specs.declared.parts.Part.{Part}
 use Rattle.txn_walk.specs.declared.plans.Plan.{Plan}
 use Rattle.node_model.specs.declared.txns.Walk.{Walk}
 use Rattle.node_model.specs.declared.txns.Txn.{Txn}
 use Rattle.node_model.specs.Txns.{txn_of, with_txn, without_txn}
-use Rattle.node_model.specs.Node.{NodeView, act, acts, act_so_far, seen_by, live_row, live_from, committed_row, reaches, plan_of, plan_excluder, is_duplicate, moved, begun, start_of, started, visited, visited_unless, after_visit, ended, with_entries, committed}
+use Rattle.node_model.specs.Node.{NodeView, act, acts, act_so_far, seen_by, live_row, live_from, committed_row, reaches, plan_of, plan_excluder, is_duplicate, moved, begun, start_of, started, visited, ended, with_entries, committed}
+use Rattle.node_model.specs.Waits.{cycle_of, victim_of, after_wait, visited_unless}
 use Rattle.node_model.specs.LockFacts.{CommittedRows, LockFacts, TxnCovered, Walks, IsCovered}
 use Rattle.node_model.specs.Calls.{Call, Begin, Start, Visit, Commit, Rollback, Publish, begun_if, started_idle, started_if, visited_if, visit_if, committed_idle, committed_if, published, after_call, after_calls, CallFits, fresh_node, LocksKeep, LocksKeepAlways, CommitsLeaveLiveRows}
 use Rattle.node_model.proofs.TxnLemmas.{txn_same, txn_other, txn_left, txn_gone, txn_owner}
@@ -100,7 +101,7 @@ none_passed schemas statement table key reached before =
     at (slice_get schemas table) both.1 (ap (λ (t : ℕ). is_before_edge (option_map_or (λ (s : Schema). (reach_of s statement).lo) (slice_get schemas t) Low) key) (sym (number_is (table_of statement) table both.0)) ∙ before)
   where
     both : ((table_of statement == table) ≡ true) × (option_map_or (λ (s : Schema). has (reach_of s statement) key) (slice_get schemas table) false ≡ true)
-    both = both_are (table_of statement == table) (option_map_or (λ (s : Schema). has (reach_of s statement) key) (slice_get schemas table) false) reached
+    both = both_true (table_of statement == table) (option_map_or (λ (s : Schema). has (reach_of s statement) key) (slice_get schemas table) false) reached
 
     at : (o : Option Schema) → option_map_or (λ (s : Schema). has (reach_of s statement) key) o false ≡ true → is_before_edge (option_map_or (λ (s : Schema). (reach_of s statement).lo) o Low) key ≡ true → ⊥
     at None over b = cc
@@ -127,12 +128,19 @@ started_kept node owner txn statement found fit None current kept = record {
 pub own_txn : (node : NodeView) (owner : ℕ) (txn : Txn) → txn_of owner node.txns ≡ Some txn → txn_of txn.owner.0 node.txns ≡ Some txn
 own_txn node owner txn found = ap (λ (o : ℕ). txn_of o node.txns) (txn_owner owner txn node.txns found) ∙ found
 
+ended_kept : (node : NodeView) (owner : ℕ) → IsKept node → IsKept (ended owner node)
+ended_kept node owner kept = record { facts = rollback_facts node owner kept.facts; tables = kept.tables; fits = fits_without node.schemas node.txns owner kept.fits }
+
 visited_kept : (node : NodeView) (owner : ℕ) (txn : Txn) → txn_of owner node.txns ≡ Some txn → (walk : Option Walk) → txn.current ≡ walk → IsKept node → IsKept (visited_if walk txn node)
 visited_kept node owner txn found None current kept = kept
 visited_kept node owner txn found (Some walk) current kept = at (plan_excluder txn.owner (table_of walk.statement) (plan_of node txn walk) node.held) refl
   where
+    waits : (a : ℕ) (cycle : Option (List ℕ)) → IsKept (after_wait cycle a node)
+    waits a None = kept
+    waits a (Some cycle) = ended_kept node (victim_of node.txns a cycle) kept
+
     at : (by : Option ℕ) → plan_excluder txn.owner (table_of walk.statement) (plan_of node txn walk) node.held ≡ by → IsKept (visited_unless by txn walk (plan_of node txn walk) node)
-    at (Some by) e = kept
+    at (Some by) e = waits txn.owner.0 (cycle_of node txn.owner.0)
     at None e = record {
       facts = visit_facts node txn walk kept.facts (own_txn node owner txn found) current e;
       tables = kept.tables;
@@ -147,9 +155,6 @@ committed_kept node owner txn origin found None kept = record {
   tables = committed_tables node txn origin kept.tables (kept.fits owner txn found).done;
   fits = fits_without node.schemas node.txns txn.owner.0 kept.fits;
 }
-
-ended_kept : (node : NodeView) (owner : ℕ) → IsKept node → IsKept (ended owner node)
-ended_kept node owner kept = record { facts = rollback_facts node owner kept.facts; tables = kept.tables; fits = fits_without node.schemas node.txns owner kept.fits }
 
 -- a publication leaves the committed tables, and so the rows
 
@@ -224,9 +229,13 @@ same_schemas (Start owner statement) node = at (txn_of owner.0 node.txns)
     at (Some txn) = idle txn txn.current
 same_schemas (Visit owner) node = at (txn_of owner.0 node.txns)
   where
+    waits : (a : ℕ) (cycle : Option (List ℕ)) → (after_wait cycle a node).schemas ≡ node.schemas
+    waits a None = refl
+    waits a (Some cycle) = refl
+
     unless : (txn : Txn) (walk : Walk) (plan : Plan) (by : Option ℕ) → (visited_unless by txn walk plan node).schemas ≡ node.schemas
     unless txn walk plan None = refl
-    unless txn walk plan (Some by) = refl
+    unless txn walk plan (Some by) = waits txn.owner.0 (cycle_of node txn.owner.0)
 
     busy : (txn : Txn) (w : Option Walk) → (visited_if w txn node).schemas ≡ node.schemas
     busy txn None = refl

@@ -16,7 +16,8 @@ use Rattle.lock_table.specs.declared.wants.Want.{Want}
 use Rattle.lock_table.specs.declared.wants.Want.TheVariants.{OnKey, OnGap, InsertAt}
 use Rattle.lock_table.specs.declared.wants.Holding.{Holding}
 use Rattle.lock_table.specs.Locks.{is_same_key, is_exclusive, excluder, exclusive_owner, released, IsHolding, Holds}
-use Rattle.lock_table.proofs.HoldLemmas.{same_key_is, same_key_self, both_are, number_is, is_number, other_number, same_or_apart, released_holds, still_holds, exclusive_found, exclusive_none, exclusive_is, shut_key, shut_insert_key, holds_appended}
+use Rattle.lock_table.proofs.GapLemmas.{both_true}
+use Rattle.lock_table.proofs.HoldLemmas.{same_key_is, same_key_self, number_is, is_number, other_number, same_or_apart, released_holds, still_holds, exclusive_found, exclusive_none, exclusive_is, shut_key, shut_insert_key, holds_appended}
 use Rattle.node_model.specs.Kept.{FactsOf, TablesOf}
 use Rattle.txn_walk.specs.declared.plans.Plan.{Plan}
 use Rattle.node_model.specs.declared.txns.Walk.{Walk}
@@ -36,7 +37,7 @@ not_noted owner held (note ∷ notes) table key now own off = at ((note.table ==
   where
     at : (b : Bool) → ((note.table == table) && is_same_key key note.key) ≡ b → put_back notes table key now ≡ now → cond b note.was (put_back notes table key now) ≡ now
     at true e more =
-        let both = both_are (note.table == table) (is_same_key key note.key) e in
+        let both = both_true (note.table == table) (is_same_key key note.key) e in
         absurd (off (subst (λ (k : List Value). Holds owner table (OnKey k Exclusive) held) (sym (same_key_is key note.key both.1))
         (subst (λ (t : ℕ). Holds owner t (OnKey note.key Exclusive) held) (number_is note.table table both.0) own.0)))
     at false e more = more
@@ -237,7 +238,7 @@ visit_own node txn walk notes facts found current none leads = at (plan_of node 
         → (b : Bool) → ((table_of walk.statement == table) && is_same_key key stop) ≡ b
         → put_back notes table key (cond b (live_row node (table_of walk.statement) stop) (live_row (visited txn walk (plan_of node txn walk) node) table key)) ≡ committed_row node table key
     exclusive stop is table key on true e =
-        let both = both_are (table_of walk.statement == table) (is_same_key key stop) e in
+        let both = both_true (table_of walk.statement == table) (is_same_key key stop) e in
         let here : table_of walk.statement ≡ table = number_is (table_of walk.statement) table both.0 in
         let there : key ≡ stop = same_key_is key stop both.1 in
         subst (λ (t : ℕ). put_back notes t key (live_row node (table_of walk.statement) stop) ≡ committed_row node t key) here

@@ -25,7 +25,8 @@ use Rattle.txn_walk.specs.declared.plans.Plan.{Plan}
 use Rattle.node_model.specs.declared.txns.Walk.{Walk}
 use Rattle.node_model.specs.declared.txns.Txn.{Txn}
 use Rattle.node_model.specs.Txns.{txn_of}
-use Rattle.node_model.specs.Node.{NodeView, acts, act, act_so_far, seen, seen_by, live_row, live_from, committed_row, is_live, stops, plan_of, plan_excluder, asked, visited_unless, committed}
+use Rattle.node_model.specs.Node.{NodeView, acts, act, act_so_far, seen, seen_by, live_row, live_from, committed_row, is_live, stops, plan_of, plan_excluder, asked, committed}
+use Rattle.node_model.specs.Waits.{cycle_of, after_wait, visited_unless}
 use Rattle.node_model.specs.LockFacts.{HoldsGapOver, Guards, TxnCovered}
 use Rattle.node_model.specs.Calls.{Call, Begin, Start, Visit, Commit, Rollback, Publish, IsNoCommitOf, GuardedRowsStay, after_calls, fresh_node, begun_if, started_idle, started_if, visited_if, visit_if, committed_idle, committed_if, published, after_call, CallFits}
 use Rattle.node_model.proofs.FactLemmas.{done_left}
@@ -154,9 +155,13 @@ guarded_stays (Start owner statement) node a table key kept other guards = at (t
     at (Some txn) = idle txn txn.current
 guarded_stays (Visit owner) node a table key kept other guards = at (txn_of owner.0 node.txns)
   where
+    waits : (a : ℕ) (cycle : Option (List ℕ)) → committed_row (after_wait cycle a node) table key ≡ committed_row node table key
+    waits a None = refl
+    waits a (Some cycle) = refl
+
     unless : (txn : Txn) (walk : Walk) (plan : Plan) (by : Option ℕ) → committed_row (visited_unless by txn walk plan node) table key ≡ committed_row node table key
     unless txn walk plan None = refl
-    unless txn walk plan (Some by) = refl
+    unless txn walk plan (Some by) = waits txn.owner.0 (cycle_of node txn.owner.0)
 
     busy : (txn : Txn) (w : Option Walk) → committed_row (visited_if w txn node) table key ≡ committed_row node table key
     busy txn None = refl

@@ -15,28 +15,11 @@ use Rattle.lock_table.specs.declared.wants.Want.TheVariants.{OnKey}
 use Rattle.lock_table.specs.declared.wants.Holding.{Holding}
 use Rattle.lock_table.specs.Stops.{IsAmong}
 use Rattle.lock_table.specs.Locks.{Holds, foreign_keys, locked_keys, exclusive_owner}
+use Rattle.lock_table.proofs.LeastLemmas.{front, back, either}
 use Rattle.lock_table.proofs.HoldLemmas.{same_key_is, foreign_among, locked_among, LockedByOther, foreign_is_held, exclusive_found}
 use Rattle.node_model.specs.declared.txns.Txn.{Txn}
 use Rattle.node_model.specs.Txns.{txn_of}
 use Rattle.node_model.specs.Node.{NodeView, live_from, live_row, committed_row, committed_rows, keys_of_rows, is_live, live_keys, stops}
-
-pub in_front : (key : List Value) (xs ys : List (List Value)) → IsAmong key xs → IsAmong key (xs ++ ys)
-in_front key [] ys i = absurd i
-in_front key (x ∷ xs) ys (inl e) = inl e
-in_front key (x ∷ xs) ys (inr i) = inr (in_front key xs ys i)
-
-pub in_back : (key : List Value) (xs ys : List (List Value)) → IsAmong key ys → IsAmong key (xs ++ ys)
-in_back key [] ys i = i
-in_back key (x ∷ xs) ys i = inr (in_back key xs ys i)
-
-in_deeper : (key x : List Value) (xs ys : List (List Value)) → IsAmong key xs ⊎ IsAmong key ys → IsAmong key (x ∷ xs) ⊎ IsAmong key ys
-in_deeper key x xs ys (inl i) = inl (inr i)
-in_deeper key x xs ys (inr i) = inr i
-
-pub in_either : (key : List Value) (xs ys : List (List Value)) → IsAmong key (xs ++ ys) → IsAmong key xs ⊎ IsAmong key ys
-in_either key [] ys i = inr i
-in_either key (x ∷ xs) ys (inl e) = inl (inl e)
-in_either key (x ∷ xs) ys (inr i) = in_deeper key x xs ys (in_either key xs ys i)
 
 pub in_filtered : (test : List Value → Bool) (key : List Value) (keys : List (List Value)) → test key ≡ true → IsAmong key keys → IsAmong key (filter test keys)
 in_filtered test key [] is i = absurd i
@@ -78,7 +61,7 @@ committed_among node table key row e = at (slice_get node.schemas table) e
 -- a key with a live row is a stop
 pub live_is_stop : (node : NodeView) (owner table : ℕ) (key : List Value) → is_live node table key ≡ true → IsAmong key (stops node owner table)
 live_is_stop node owner table key live =
-    in_back key (foreign_keys owner table node.held) (live_keys node table) (in_filtered (is_live node table) key (keys_of_rows node.schemas table (committed_rows node table) ++ locked_keys table node.held) live candidate)
+    back key (foreign_keys owner table node.held) (live_keys node table) (in_filtered (is_live node table) key (keys_of_rows node.schemas table (committed_rows node table) ++ locked_keys table node.held) live candidate)
   where
     by_owner : (o : Option ℕ) → exclusive_owner table key node.held ≡ o → is_some (live_from node.schemas node.txns o table key (committed_row node table key)) ≡ true
         → IsAmong key (keys_of_rows node.schemas table (committed_rows node table) ++ locked_keys table node.held)
@@ -86,9 +69,9 @@ live_is_stop node owner table key live =
       where
         by_row : (row : Option (List Value)) → committed_row node table key ≡ row → is_some row ≡ true → IsAmong key (keys_of_rows node.schemas table (committed_rows node table) ++ locked_keys table node.held)
         by_row None f some = cc
-        by_row (Some row) f some = in_front key (keys_of_rows node.schemas table (committed_rows node table)) (locked_keys table node.held) (committed_among node table key row f)
+        by_row (Some row) f some = front key (keys_of_rows node.schemas table (committed_rows node table)) (locked_keys table node.held) (committed_among node table key row f)
     by_owner (Some a) e is =
-        in_back key (keys_of_rows node.schemas table (committed_rows node table)) (locked_keys table node.held) (locked_among a table key Exclusive node.held (exclusive_found a table key node.held e))
+        back key (keys_of_rows node.schemas table (committed_rows node table)) (locked_keys table node.held) (locked_among a table key Exclusive node.held (exclusive_found a table key node.held e))
 
     candidate : IsAmong key (keys_of_rows node.schemas table (committed_rows node table) ++ locked_keys table node.held)
     candidate = by_owner (exclusive_owner table key node.held) refl live
@@ -96,11 +79,11 @@ live_is_stop node owner table key live =
 -- a key on which another owner has a lock is a stop
 pub foreign_is_stop : (node : NodeView) (owner other table : ℕ) (key : List Value) (mode : LockMode) → other ≢ owner → Holds other table (OnKey key mode) node.held → IsAmong key (stops node owner table)
 foreign_is_stop node owner other table key mode apart holds =
-    in_front key (foreign_keys owner table node.held) (live_keys node table) (foreign_among owner other table key mode node.held apart holds)
+    front key (foreign_keys owner table node.held) (live_keys node table) (foreign_among owner other table key mode node.held apart holds)
 
 -- and there are no others
 pub stop_is : (node : NodeView) (owner table : ℕ) (key : List Value) → IsAmong key (stops node owner table) → LockedByOther owner table key node.held ⊎ (is_live node table key ≡ true)
-stop_is node owner table key i = at (in_either key (foreign_keys owner table node.held) (live_keys node table) i)
+stop_is node owner table key i = at (either key (foreign_keys owner table node.held) (live_keys node table) i)
   where
     at : IsAmong key (foreign_keys owner table node.held) ⊎ IsAmong key (live_keys node table) → LockedByOther owner table key node.held ⊎ (is_live node table key ≡ true)
     at (inl j) = inl (foreign_is_held owner table key node.held j)

@@ -185,3 +185,40 @@ close_for owner items view slice place txn new after seen same is there at chang
     ∙ ap (without_txn owner) ((λ i. slice_set items (p i) (changed i)) ∙ place_set owner items (record txn { done = [] }) own t)
     ∙ without_with owner (record txn { done = [] }) items own
     ∙ ap (without_txn owner) seen
+
+-- a transaction put in the place of another of its owner
+
+pub with_twice : (new other : Txn) (txns : List Txn) → new.owner.0 ≡ other.owner.0 → with_txn new (with_txn other txns) ≡ with_txn new txns
+with_twice new other [] own = ap (λ (b : Bool). cond b (new ∷ []) (other ∷ new ∷ [])) (is_number other.owner.0 new.owner.0 (sym own))
+with_twice new other (first ∷ txns) own = at (first.owner.0 == other.owner.0) refl (with_twice new other txns own)
+  where
+    at : (b : Bool) → (first.owner.0 == other.owner.0) ≡ b → with_txn new (with_txn other txns) ≡ with_txn new txns
+        → with_txn new (cond b (other ∷ txns) (first ∷ with_txn other txns)) ≡ cond (first.owner.0 == new.owner.0) (new ∷ txns) (first ∷ with_txn new txns)
+    at true e more =
+        ap (λ (b : Bool). cond b (new ∷ txns) (other ∷ with_txn new txns)) (is_number other.owner.0 new.owner.0 (sym own))
+        ∙ sym (ap (λ (b : Bool). cond b (new ∷ txns) (first ∷ with_txn new txns)) (is_number first.owner.0 new.owner.0 (number_is first.owner.0 other.owner.0 e ∙ sym own)))
+    at false e more =
+        let apart : (first.owner.0 == new.owner.0) ≡ false = ap (λ (o : ℕ). first.owner.0 == o) own ∙ e in
+        ap (λ (b : Bool). cond b (new ∷ with_txn other txns) (first ∷ with_txn new (with_txn other txns))) apart
+        ∙ ap (λ (ts : List Txn). first ∷ ts) more
+        ∙ sym (ap (λ (b : Bool). cond b (new ∷ txns) (first ∷ with_txn new txns)) apart)
+
+pub with_own : (txn : Txn) (txns : List Txn) → txn_of txn.owner.0 txns ≡ Some txn → with_txn txn txns ≡ txns
+with_own txn [] found = absurd (let q : None ≡ Some txn = found in cc)
+with_own txn (first ∷ txns) found = at (first.owner.0 == txn.owner.0) found (λ f. with_own txn txns f)
+  where
+    at : (b : Bool) → cond b (Some first) (txn_of txn.owner.0 txns) ≡ Some txn → (txn_of txn.owner.0 txns ≡ Some txn → with_txn txn txns ≡ txns) → cond b (txn ∷ txns) (first ∷ with_txn txn txns) ≡ first ∷ txns
+    at true f more = ap (λ (t : Txn). t ∷ txns) (sym (some_txn first txn f))
+    at false f more = ap (λ (ts : List Txn). first ∷ ts) (more f)
+
+-- a statement that was started and is taken back
+pub taken_back : (owner : ℕ) (txn : Txn) (walk : Walk) (txns : List Txn) → txn_of owner txns ≡ Some txn → txn.current ≡ None
+    → with_current None (txn_of owner (with_txn (record txn { current = Some walk }) txns)) (with_txn (record txn { current = Some walk }) txns) ≡ txns
+taken_back owner txn walk txns found idle =
+    ap (λ (o : Option Txn). with_current None o (with_txn (record txn { current = Some walk }) txns)) there
+    ∙ with_twice (record txn { current = None }) (record txn { current = Some walk }) txns refl
+    ∙ ap (λ (w : Option Walk). with_txn (record txn { current = w }) txns) (sym idle)
+    ∙ with_own txn txns (ap (λ (o : ℕ). txn_of o txns) (txn_owner owner txn txns found) ∙ found)
+  where
+    there : txn_of owner (with_txn (record txn { current = Some walk }) txns) ≡ Some (record txn { current = Some walk })
+    there = ap (λ (o : ℕ). txn_of o (with_txn (record txn { current = Some walk }) txns)) (sym (txn_owner owner txn txns found)) ∙ txn_same (record txn { current = Some walk }) txns

@@ -20,7 +20,8 @@ use Rattle.lock_table.specs.declared.wants.Want.TheVariants.{OnKey, OnGap, Inser
 use Rattle.lock_table.specs.declared.wants.Holding.{Holding}
 use Rattle.lock_table.specs.Stops.{IsAmong}
 use Rattle.lock_table.specs.Locks.{excluder, is_exclusive, exclusive_owner, IsHolding, Holds}
-use Rattle.lock_table.proofs.HoldLemmas.{same_or_apart, number_is, both_are, shut_key, shut_insert_key, shut_insert_gap, LockedByOther, exclusive_found, holds_front, holds_last, holds_appended}
+use Rattle.lock_table.proofs.GapLemmas.{both_true}
+use Rattle.lock_table.proofs.HoldLemmas.{same_or_apart, number_is, shut_key, shut_insert_key, shut_insert_gap, LockedByOther, exclusive_found, holds_front, holds_last, holds_appended}
 use Rattle.node_model.specs.Kept.{FactsOf}
 use Rattle.txn_walk.specs.declared.plans.Plan.{Plan}
 use Rattle.txn_walk.specs.Plans.{next_visit}
@@ -81,7 +82,7 @@ pub record SoundIn (node : NodeView) (owner : ℕ) (walk : Walk) (plan : Plan) :
 reached_at : (node : NodeView) (statement : Statement) (table : ℕ) (key : List Value) (schema : Option Schema) → slice_get node.schemas (table_of statement) ≡ schema
     → reaches node.schemas statement table key ≡ true → (table_of statement ≡ table) × (option_map_or (λ (s : Schema). has (reach_of s statement) key) schema false ≡ true)
 reached_at node statement table key schema is reached =
-    let both = both_are (table_of statement == table) (option_map_or (λ (s : Schema). has (reach_of s statement) key) (slice_get node.schemas table) false) reached in
+    let both = both_true (table_of statement == table) (option_map_or (λ (s : Schema). has (reach_of s statement) key) (slice_get node.schemas table) false) reached in
     let same : table_of statement ≡ table = number_is (table_of statement) table both.0 in
     (same, ap (λ (o : Option Schema). option_map_or (λ (s : Schema). has (reach_of s statement) key) o false) (sym is ∙ ap (slice_get node.schemas) same) ∙ both.1)
 

@@ -19,7 +19,8 @@ use Rattle.lock_table.specs.declared.wants.Want.TheVariants.{OnKey}
 use Rattle.lock_table.specs.declared.wants.Holding.{Holding}
 use Rattle.lock_table.specs.Stops.{IsAmong}
 use Rattle.lock_table.specs.Locks.{is_same_key, exclusive_owner, IsHolding, Holds}
-use Rattle.lock_table.proofs.HoldLemmas.{same_key_is, both_are, number_is, is_number, same_or_apart, same_key_self, exclusive_found, exclusive_none, exclusive_is, holds_appended}
+use Rattle.lock_table.proofs.GapLemmas.{both_true}
+use Rattle.lock_table.proofs.HoldLemmas.{same_key_is, number_is, is_number, same_or_apart, same_key_self, exclusive_found, exclusive_none, exclusive_is, holds_appended}
 use Rattle.node_model.specs.Kept.{FactsOf}
 use Rattle.txn_walk.specs.declared.plans.Plan.{Plan}
 use Rattle.node_model.specs.declared.txns.Walk.{Walk}
@@ -64,8 +65,8 @@ is_false false e = refl
 
 pub visit_to : (txn : Txn) (walk : Walk) (plan : Plan) (table : ℕ) (key : List Value) → is_visit_to txn walk plan table key ≡ true → VisitTo txn walk plan table key
 visit_to txn walk plan table key is =
-    let first = both_are (not (is_duplicate txn.part walk.statement plan)) ((table_of walk.statement == table) && is_locked_at key plan.on_key) is in
-    let second = both_are (table_of walk.statement == table) (is_locked_at key plan.on_key) first.1 in
+    let first = both_true (not (is_duplicate txn.part walk.statement plan)) ((table_of walk.statement == table) && is_locked_at key plan.on_key) is in
+    let second = both_true (table_of walk.statement == table) (is_locked_at key plan.on_key) first.1 in
     record { fresh = is_false (is_duplicate txn.part walk.statement plan) first.0; of = number_is (table_of walk.statement) table second.0; lock = lock_at plan key plan.on_key refl second.1 }
 
 pub to_visit : (txn : Txn) (walk : Walk) (plan : Plan) (table : ℕ) (key : List Value) (mode : LockMode) → is_duplicate txn.part walk.statement plan ≡ false → table_of walk.statement ≡ table

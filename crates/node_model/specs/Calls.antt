@@ -27,7 +27,8 @@ use Rattle.node_model.specs.declared.parts.Part.{Part}
 use Rattle.node_model.specs.declared.txns.Walk.{Walk}
 use Rattle.node_model.specs.declared.txns.Txn.{Txn}
 use Rattle.node_model.specs.Txns.{txn_of}
-use Rattle.node_model.specs.Node.{NodeView, committed_row, live_row, begun, started, after_visit, ended, committed, with_entries}
+use Rattle.node_model.specs.Node.{NodeView, committed_row, live_row, begun, started, ended, committed, with_entries}
+use Rattle.node_model.specs.Waits.{after_visit}
 use Rattle.node_model.specs.LockFacts.{Guards, TxnCovered}
 
 pub data Call : Type 0 where

@@ -1,7 +1,7 @@
 pub mod Txns
 pub mod Node
 pub mod LockFacts
-pub mod Calls
 pub mod Waits
+pub mod Calls
 pub mod PutBack
 pub mod Kept

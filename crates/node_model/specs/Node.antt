@@ -169,15 +169,6 @@ abbrev pub visited : Txn → Walk → Plan → NodeView → NodeView
 visited txn walk plan node =
     record node { txns = with_txn (moved txn walk plan) node.txns; held = taken txn.owner (table_of walk.statement) plan node.held }
 
-abbrev pub visited_unless : Option ℕ → Txn → Walk → Plan → NodeView → NodeView
-visited_unless None txn walk plan node = visited txn walk plan node
-visited_unless (Some by) txn walk plan node = node
-
--- a visit changes nothing where its want is excluded
-abbrev pub after_visit : Txn → Walk → NodeView → NodeView
-after_visit txn walk node =
-    visited_unless (plan_excluder txn.owner (table_of walk.statement) (plan_of node txn walk) node.held) txn walk (plan_of node txn walk) node
-
 -- an owner's transaction and all that it holds are gone
 abbrev pub ended : ℕ → NodeView → NodeView
 ended owner node = record node { txns = without_txn owner node.txns; held = released owner node.held }

@@ -1,10 +1,11 @@
--- Who waits for whom, and the cycle on which following waits comes back.
-use Rattle.std.specs.Prelude.{ℕ, zero, suc, ◌≡◌, ◌≢◌, ◌==◌, cond, List, [], ◌∷◌, length, Option, None, Some, option_map}
+-- Who waits for whom, the cycle on which following waits comes back, and what a visit does then.
+use Rattle.std.specs.Prelude.{ℕ, zero, suc, ◌≡◌, ◌≢◌, ◌==◌, Bool, false, cond, List, [], ◌∷◌, length, Option, None, Some, option_map}
 use Rattle.ptc_statement.specs.Effect.{table_of}
 use Rattle.node_model.specs.declared.txns.Walk.{Walk}
 use Rattle.node_model.specs.declared.txns.Txn.{Txn}
 use Rattle.node_model.specs.Txns.{txn_of}
-use Rattle.node_model.specs.Node.{NodeView, plan_of, plan_excluder}
+use Rattle.txn_walk.specs.declared.plans.Plan.{Plan}
+use Rattle.node_model.specs.Node.{NodeView, plan_of, plan_excluder, is_client, visited, ended}
 
 abbrev pub wait_in : NodeView → Txn → Option Walk → Option ℕ
 wait_in node txn None = None
@@ -37,3 +38,31 @@ abbrev pub IsWayBack : (ℕ → Option ℕ) → ℕ → List ℕ → Type 0
 IsWayBack waits home [] = ⊥
 IsWayBack waits home (owner ∷ []) = waits owner ≡ Some home
 IsWayBack waits home (owner ∷ next ∷ others) = (waits owner ≡ Some next) × (next ≢ home) × IsWayBack waits home (next ∷ others)
+
+abbrev pub is_clients : Option Txn → Bool
+is_clients None = false
+is_clients (Some txn) = is_client txn.part
+
+-- the first of these owners whose transaction is a client's, else another owner
+abbrev pub first_client : List Txn → ℕ → List ℕ → ℕ
+first_client txns other [] = other
+first_client txns other (owner ∷ owners) = cond (is_clients (txn_of owner txns)) owner (first_client txns other owners)
+
+-- whose transaction a deadlock ends: that of the owner whose visit closed the cycle or, where it applies an
+-- entry, that of the first on the cycle that applies none; a cycle is listed from that owner on
+abbrev pub victim_of : List Txn → ℕ → List ℕ → ℕ
+victim_of txns owner cycle = first_client txns owner cycle
+
+abbrev pub after_wait : Option (List ℕ) → ℕ → NodeView → NodeView
+after_wait None owner node = node
+after_wait (Some cycle) owner node = ended (victim_of node.txns owner cycle) node
+
+-- a visit that another owner's holding excludes changes nothing, unless following waits comes back to its
+-- owner: then the victim's transaction is gone
+abbrev pub visited_unless : Option ℕ → Txn → Walk → Plan → NodeView → NodeView
+visited_unless None txn walk plan node = visited txn walk plan node
+visited_unless (Some by) txn walk plan node = after_wait (cycle_of node txn.owner.0) txn.owner.0 node
+
+abbrev pub after_visit : Txn → Walk → NodeView → NodeView
+after_visit txn walk node =
+    visited_unless (plan_excluder txn.owner (table_of walk.statement) (plan_of node txn walk) node.held) txn walk (plan_of node txn walk) node

@@ -1,6 +1,6 @@
 ghost use Rattle.std.specs.Prelude.{◌≡◌, [], ◌∷◌, None, Some, IsSome, true, false, option_copied, OnOk, OnErr};
 ghost use Rattle.row_types.specs.declared.edges.Edge.TheVariants.{Low};
-ghost use Rattle.std.specs.Prelude.{◌++◌, ◌<◌, vec_len, vec_capacity};
+ghost use Rattle.std.specs.Prelude.{◌++◌, ◌<◌, length, vec_len, vec_capacity};
 ghost use Rattle.node_model.specs.Txns.{txn_of, with_txn, without_txn, done_of, place_in, with_current, stepped_if, with_step};
 
 use crate::parts::Part;
@@ -56,6 +56,12 @@ impl Txns {
         }
     }
 
+    pub fn len(&self) -> usize
+        ensures { result ≡ length self.now }
+    {
+        self.items.len()
+    }
+
     /// The open transaction of an owner, if there is one.
     pub fn get(&self, owner: Owner) -> Option<&Txn>
         ensures { option_copied result ≡ txn_of owner.0 self.now }
@@ -81,6 +87,15 @@ impl Txns {
     {
         let place = place_in(self.items.as_slice(), owner);
         set_current(&mut self.items[place], walk);
+    }
+
+    /// No statement is in progress any more in an owner's transaction.
+    pub fn withdraw(&mut self, owner: Owner)
+        requires { IsSome (txn_of owner.0 self.old) }
+        ensures { self.new ≡ with_current None (txn_of owner.0 self.old) self.old }
+    {
+        let place = place_in(self.items.as_slice(), owner);
+        clear_current(&mut self.items[place]);
     }
 
     /// A visit of an owner's statement in progress: the statement is refused, done, or goes on behind an
@@ -156,6 +171,12 @@ fn set_current(txn: &mut Txn, walk: Walk)
     ensures { txn.new ≡ record txn.old { current = Some walk } }
 {
     txn.current = Some(walk);
+}
+
+fn clear_current(txn: &mut Txn)
+    ensures { txn.new ≡ record txn.old { current = None } }
+{
+    txn.current = None;
 }
 
 fn step_one(txn: &mut Txn, refused: bool, ends: bool, after: Edge) -> R<()>

@@ -44,9 +44,6 @@ least_of_rows key_len edge (row ∷ rows) ordered = at (is_past_edge edge (take 
     at true more = ap Some (lesser_own key_len edge row rows (least_key_past edge (map (take key_len) rows)) ordered.1 (the_least edge (map (take key_len) rows)))
     at false more = more
 
-last_of : ℕ → List (List Value) → Option (List Value)
-last_of key_len rows = option_map (take key_len) (slice_get rows (length rows - 1))
-
 last_more : (row other : List Value) (others : List (List Value)) → slice_get (row ∷ other ∷ others) (length (row ∷ other ∷ others) - 1) ≡ slice_get (other ∷ others) (length (other ∷ others) - 1)
 last_more row other others =
     let e : suc (suc (length others)) - 1 ≡ suc (length others) = omega arith in
