@@ -1,0 +1,7 @@
+pub mod ChangeLemmas
+pub mod ReadingLemmas
+pub mod MetLemmas
+pub mod StatementLemmas
+pub mod VisitReads
+pub mod OthersReads
+pub mod KeptReads

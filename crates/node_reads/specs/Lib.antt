@@ -1,0 +1,5 @@
+pub mod Reads
+pub mod Gains
+pub mod Readings
+pub mod ReadBy
+pub mod CheckChanges
