@@ -4,17 +4,17 @@ use Rattle.std.specs.List.{slice_get, AllByRecursion}
 use Rattle.std.proofs.lemmas.List.{append-nil}
 use Rattle.row_types.specs.declared.values.Value.{Value}
 use Rattle.row_types.specs.declared.lock_modes.LockMode.TheVariants.{Exclusive}
+use Rattle.row_types.specs.declared.digests.Digest.{Digest}
 use Rattle.row_types.specs.declared.table_schema.Schema.{Schema}
 use Rattle.row_types.specs.KeyRows.{TableRows}
 use Rattle.ptc_statement.specs.declared.statements.Statement.{Statement}
 use Rattle.ptc_statement.specs.Effect.{is_logged}
-use Rattle.ptc_statement.specs.Fits.{IsClients}
 use Rattle.ordered_table.specs.TableView.{TableView}
 use Rattle.statement_log.specs.declared.entries.Entry.{Entry}
 use Rattle.statement_log.specs.declared.origins.Origin.{Origin}
 use Rattle.statement_log.specs.declared.origins.Origin.TheVariants.{Session, Checksum, Sync, Local, Applied}
-use Rattle.history.specs.Replay.{Replayed, fold, position_of, applied_of}
-use Rattle.history.proofs.ReplayLemmas.{fold_more, applied_of-more, clients_keep_checks}
+use Rattle.history.specs.Replay.{Replayed, fold, position_of, applied_of, after_statements}
+use Rattle.history.proofs.ReplayLemmas.{fold_more, applied_of-more}
 use Rattle.lock_table.specs.declared.wants.Owner.{Owner}
 use Rattle.lock_table.specs.declared.wants.Want.TheVariants.{OnKey}
 use Rattle.lock_table.specs.Locks.{released}
@@ -29,10 +29,18 @@ use Rattle.node_model.specs.PutBack.{LeadsBack}
 use Rattle.node_model.proofs.LiveLemmas.{committed_live}
 use Rattle.node_model.proofs.CallLemmas.{call_kept, own_txn}
 use Rattle.node_model.proofs.PutBackLemmas.{commit_others}
+use Rattle.node_reads.specs.Reads.{sums_of}
+use Rattle.node_reads.specs.CheckChanges.{checks_with}
+use Rattle.node_reads.specs.Readings.{reading_of, without_reading}
+use Rattle.node_reads.specs.ReadBy.{AllRead}
+use Rattle.node_reads.proofs.ChangeLemmas.{replayed}
+use Rattle.node_reads.proofs.KeptReads.{own_at, committed_reads}
 use Rattle.node_engine.specs.declared.notes.Note.{Note}
 use Rattle.node_engine.specs.declared.parts.Parts.{Parts}
 use Rattle.node_engine.specs.NotesView.{forgotten}
 use Rattle.node_engine.specs.Kept.{node_view, noted_as, notes_of, notes_on, IsLive, NoteFits, PartsKept}
+use Rattle.node_engine.specs.KeptReads.{ReadsKept}
+use Rattle.node_engine.specs.Commits.{sums_in}
 use Rattle.node_engine.specs.Answers.{IsIdle}
 use Rattle.node_engine.proofs.PlanIsLemmas.{owner_is}
 
@@ -86,15 +94,37 @@ each_filtered P test (x ∷ xs) each = at (test x) (each_filtered P test xs each
 
 -- what the entry changes of the check rows, and of the last entry applied
 
-clients_checks : (schemas : List Schema) (start : TableRows) (history : List Entry) (origin : Origin) (done : List Statement) → AllByRecursion IsClients done
-    → (fold schemas start (history ++ written origin (logged done))).checks ≡ (fold schemas start history).checks
-clients_checks schemas start history origin done clients = at (is_written origin (logged done))
+unwritten : (origin : Origin) (statements : List Statement) → is_written origin statements ≡ false → statements ≡ []
+unwritten (Session session) [] e = refl
+unwritten (Session session) (statement ∷ statements) e = absurd (let q : true ≡ false = e in cc)
+unwritten Checksum statements e = absurd (let q : true ≡ false = e in cc)
+unwritten (Sync replica table span) statements e = absurd (let q : true ≡ false = e in cc)
+unwritten (Local session) [] e = refl
+unwritten (Local session) (statement ∷ statements) e = absurd (let q : true ≡ false = e in cc)
+unwritten (Applied entry) statements e = absurd (let q : true ≡ false = e in cc)
+
+-- the check rows after a commit are those of the replay with its entry
+written_checks : (schemas : List Schema) (start : TableRows) (history : List Entry) (origin : Origin) (done : List Statement)
+    → (fold schemas start (history ++ written origin (logged done))).checks
+    ≡ checks_with (position_of (length history + 1) origin) done (sums_of schemas done (fold schemas start history).tables) (fold schemas start history).checks
+written_checks schemas start history origin done = at (is_written origin (logged done)) refl
   where
-    at : (b : Bool) → (fold schemas start (history ++ cond b (record { origin = origin; statements = logged done } ∷ []) [])).checks ≡ (fold schemas start history).checks
-    at true =
-        ap (λ (r : Replayed). r.checks) (fold_more schemas start history (record { origin = origin; statements = logged done }))
-        ∙ clients_keep_checks schemas (position_of (length history + 1) origin) (logged done) (fold schemas start history) (each_filtered IsClients is_logged done clients)
-    at false = ap (λ (entries : List Entry). (fold schemas start entries).checks) (append-nil history)
+    here : Replayed
+    here = fold schemas start history
+
+    position : ℕ
+    position = position_of (length history + 1) origin
+
+    made : checks_with (position_of (length history + 1) origin) done (sums_of schemas done (fold schemas start history).tables) (fold schemas start history).checks
+        ≡ (after_statements schemas (position_of (length history + 1) origin) (logged done) (fold schemas start history)).checks
+    made = replayed schemas (position_of (length history + 1) origin) done (fold schemas start history).tables (fold schemas start history).checks
+
+    at : (b : Bool) → is_written origin (logged done) ≡ b → (fold schemas start (history ++ cond b (record { origin = origin; statements = logged done } ∷ []) [])).checks
+        ≡ checks_with (position_of (length history + 1) origin) done (sums_of schemas done (fold schemas start history).tables) (fold schemas start history).checks
+    at true e = ap (λ (r : Replayed). r.checks) (fold_more schemas start history (record { origin = origin; statements = logged done })) ∙ sym made
+    at false e =
+        ap (λ (entries : List Entry). (fold schemas start entries).checks) (append-nil history)
+        ∙ sym (made ∙ ap (λ (ss : List Statement). (after_statements schemas (position_of (length history + 1) origin) ss (fold schemas start history)).checks) (unwritten origin (logged done) e))
 
 applied_written : (history : List Entry) (origin : Origin) (statements : List Statement) → applied_of (history ++ written origin statements) ≡ position_of (applied_of history) origin
 applied_written history origin statements = at (is_written origin statements) refl
@@ -110,7 +140,7 @@ applied_written history origin statements = at (is_written origin statements) re
     at true e = applied_of-more history (record { origin = origin; statements = statements })
     at false e = ap applied_of (append-nil history) ∙ stays (applied_of history) origin statements e
 
--- what a commit of clients' statements does
+-- what a commit does
 pub record IsCommitted (owner : Owner) (origin : Origin) (txn : Txn) (old new : Parts) : Type 0 where
   pub schemas : new.schemas.tables ≡ old.schemas.tables
   pub start : new.start ≡ old.start
@@ -197,8 +227,10 @@ committed_parts old new owner origin kept idle is = record {
 
 -- for the code
 
-pub record Commits (owner : Owner) (origin : Origin) (old new : Parts) (room : List Entry) (done statements : List Statement) : Type 0 where
+pub record Commits (owner : Owner) (origin : Origin) (old new : Parts) (room : List Entry) (number : ℕ) (sums : List Digest) (done statements : List Statement) : Type 0 where
   pub same_entries : room ≡ old.history.entries
+  pub numbered : number ≡ position_of (length room + 1) origin
+  pub summed : sums ≡ sums_in (reading_of owner.0 old.reads.items)
   pub taken : done ≡ done_of (txn_of owner.0 old.txns)
   pub those : statements ≡ logged done
   pub schemas : new.schemas.tables ≡ old.schemas.tables
@@ -208,26 +240,39 @@ pub record Commits (owner : Owner) (origin : Origin) (old new : Parts) (room : L
   pub txns : new.txns ≡ without_txn owner.0 old.txns
   pub held : new.locks.held ≡ released owner.0 old.locks.held
   pub notes : new.notes.notes ≡ forgotten owner.0 old.notes.notes
-  pub checks : new.checks ≡ old.checks
+  pub checks : new.checks ≡ checks_with number (done_of (txn_of owner.0 old.txns)) sums old.checks
   pub applied : new.applied ≡ position_of old.applied origin
 
 done_is : (old : Parts) (owner : Owner) (idle : IsIdle owner.0 (node_view old)) → done_of (txn_of owner.0 old.txns) ≡ idle.txn.done
 done_is old owner idle = ap done_of idle.found
 
-statements_are : (old new : Parts) (owner : Owner) (origin : Origin) (room : List Entry) (done statements : List Statement) (idle : IsIdle owner.0 (node_view old)) → Commits owner origin old new room done statements
-    → statements ≡ logged idle.txn.done
-statements_are old new owner origin room done statements idle c = c.those ∙ ap logged (c.taken ∙ done_is old owner idle)
+statements_are : (old new : Parts) (owner : Owner) (origin : Origin) (room : List Entry) (number : ℕ) (sums : List Digest) (done statements : List Statement) (idle : IsIdle owner.0 (node_view old))
+    → Commits owner origin old new room number sums done statements → statements ≡ logged idle.txn.done
+statements_are old new owner origin room number sums done statements idle c = c.those ∙ ap logged (c.taken ∙ done_is old owner idle)
 
-pub commits : (old new : Parts) (owner : Owner) (origin : Origin) (room : List Entry) (done statements : List Statement) (idle : IsIdle owner.0 (node_view old)) → PartsKept old
-    → AllByRecursion IsClients (done_of (txn_of owner.0 old.txns)) → Commits owner origin old new room done statements → IsCommitted owner origin idle.txn old new
-commits old new owner origin room done statements idle kept clients c = record {
-  schemas = c.schemas;
-  start = c.start;
-  tables = c.tables;
-  history = c.history ∙ (λ i. c.same_entries i ++ written origin (statements_are old new owner origin room done statements idle c i));
-  txns = c.txns;
-  held = c.held;
-  notes = c.notes;
-  checks = clients_checks old.schemas.tables old.start old.history.entries origin idle.txn.done (subst (AllByRecursion IsClients) (done_is old owner idle) clients) ∙ kept.checks ∙ sym c.checks;
-  applied = c.applied;
-}
+pub commits : (old new : Parts) (owner : Owner) (origin : Origin) (room : List Entry) (number : ℕ) (sums : List Digest) (done statements : List Statement) (idle : IsIdle owner.0 (node_view old)) → PartsKept old → ReadsKept old
+    → Commits owner origin old new room number sums done statements → IsCommitted owner origin idle.txn old new
+commits old new owner origin room number sums done statements idle kept reads c =
+    let own = own_at old.schemas.tables (fold old.schemas.tables old.start old.history.entries).tables owner.0 idle.txn old.txns old.reads.items reads idle.found in
+    let those : sums ≡ sums_of old.schemas.tables idle.txn.done (fold old.schemas.tables old.start old.history.entries).tables = c.summed ∙ ap sums_in own.is ∙ own.read.sums in
+    let next : number ≡ position_of (length old.history.entries + 1) origin = c.numbered ∙ ap (λ (es : List Entry). position_of (length es + 1) origin) c.same_entries in
+    record {
+      schemas = c.schemas;
+      start = c.start;
+      tables = c.tables;
+      history = c.history ∙ (λ i. c.same_entries i ++ written origin (statements_are old new owner origin room number sums done statements idle c i));
+      txns = c.txns;
+      held = c.held;
+      notes = c.notes;
+      checks = written_checks old.schemas.tables old.start old.history.entries origin idle.txn.done
+          ∙ (λ i. checks_with (sym next i) (sym (done_is old owner idle) i) (sym those i) (kept.checks i))
+          ∙ sym c.checks;
+      applied = c.applied;
+    }
+
+-- each open transaction has its reading after a commit
+pub commits_reads : (old new : Parts) (owner : Owner) (origin : Origin) (idle : IsIdle owner.0 (node_view old)) → PartsKept old → ReadsKept old → IsCommitted owner origin idle.txn old new
+    → new.reads.items ≡ without_reading owner.0 old.reads.items → ReadsKept new
+commits_reads old new owner origin idle kept reads is left =
+    subst (λ (n : NodeView). AllRead n.schemas (fold n.schemas n.start n.history).tables new.txns new.reads.items) (sym (committed_is old new owner origin idle is))
+    (committed_reads (node_view old) owner origin idle.txn new.txns old.reads.items new.reads.items kept.laws (λ number schema found. (kept.live number schema found).sound.is_schema) idle.found idle.idle reads is.txns left)

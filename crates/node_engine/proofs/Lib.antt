@@ -12,3 +12,5 @@ pub mod FreshLemmas
 pub mod RollbackLemmas
 pub mod CommittedLemmas
 pub mod PublishedLemmas
+pub mod GainLemmas
+pub mod CycleLemmas

@@ -25,7 +25,8 @@ use Rattle.node_model.specs.Node.{NodeView, live_row, is_live, live_keys, stops,
 use Rattle.lock_table.specs.declared.wants.Owner.{Owner}
 use Rattle.node_model.specs.Txns.{txn_of}
 use Rattle.node_model.proofs.TxnLemmas.{txn_owner}
-use Rattle.node_model.proofs.StopLemmas.{in_front, in_back, in_either, filtered_is, live_is_stop}
+use Rattle.lock_table.proofs.LeastLemmas.{front, back, either}
+use Rattle.node_model.proofs.StopLemmas.{filtered_is, live_is_stop}
 use Rattle.node_model.proofs.SameStops.{same_visit, SameKeys}
 use Rattle.node_model.specs.Waits.{wait_in, wait_of, next_wait}
 use Rattle.txn_walk.specs.StopsAt.{stops_at, is_live_in, plan_at}
@@ -56,16 +57,16 @@ row_among key_len key (row ∷ rows) there = at (is_at key_len key row) refl the
 
 same_stops : (node : NodeView) (owner number : ℕ) (live : TableView) → ((key : List Value) → row_at live.key_len key live.rows ≡ live_row node number key)
     → SameKeys (stops_at owner number live node.held) (stops node owner number)
-same_stops node owner number live rows = (λ key i. to key (in_either key (foreign_keys owner number node.held) (map (take live.key_len) live.rows) i), λ key i. from key (in_either key (foreign_keys owner number node.held) (live_keys node number) i))
+same_stops node owner number live rows = (λ key i. to key (either key (foreign_keys owner number node.held) (map (take live.key_len) live.rows) i), λ key i. from key (either key (foreign_keys owner number node.held) (live_keys node number) i))
   where
     to : (key : List Value) → IsAmong key (foreign_keys owner number node.held) ⊎ IsAmong key (map (take live.key_len) live.rows) → IsAmong key (stops node owner number)
-    to key (inl i) = in_front key (foreign_keys owner number node.held) (live_keys node number) i
+    to key (inl i) = front key (foreign_keys owner number node.held) (live_keys node number) i
     to key (inr i) = live_is_stop node owner number key (sym (ap is_some (rows key)) ∙ among_row live.key_len key live.rows i)
 
     from : (key : List Value) → IsAmong key (foreign_keys owner number node.held) ⊎ IsAmong key (live_keys node number) → IsAmong key (stops_at owner number live node.held)
-    from key (inl i) = in_front key (foreign_keys owner number node.held) (map (take live.key_len) live.rows) i
+    from key (inl i) = front key (foreign_keys owner number node.held) (map (take live.key_len) live.rows) i
     from key (inr i) =
-        in_back key (foreign_keys owner number node.held) (map (take live.key_len) live.rows)
+        back key (foreign_keys owner number node.held) (map (take live.key_len) live.rows)
         (row_among live.key_len key live.rows
         (ap is_some (rows key) ∙ filtered_is (is_live node number) key (keys_of_rows node.schemas number (committed_rows node number) ++ locked_keys number node.held) i))
 

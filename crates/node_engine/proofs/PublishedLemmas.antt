@@ -5,6 +5,7 @@ use Rattle.row_types.specs.declared.values.Value.{Value}
 use Rattle.row_types.specs.declared.digests.DigestKind.{DigestKind}
 use Rattle.row_types.specs.declared.digests.Digest.{Digest}
 use Rattle.row_types.specs.declared.table_schema.Schema.{Schema}
+use Rattle.row_types.specs.KeyRows.{TableRows}
 use Rattle.ptc_statement.specs.declared.statements.Statement.{Statement}
 use Rattle.ptc_statement.specs.declared.statements.Statement.TheVariants.{SetMaster}
 use Rattle.ordered_table.specs.TableView.{TableView}
@@ -20,9 +21,15 @@ use Rattle.node_model.specs.Calls.{Publish, after_call, published}
 use Rattle.node_model.specs.Node.{NodeView, live_row, live_from, committed_row, with_entries}
 use Rattle.node_model.specs.PutBack.{LeadsBack, put_back}
 use Rattle.node_model.proofs.CallLemmas.{call_kept, published_row}
+use Rattle.node_model.specs.Txns.{txn_of}
+use Rattle.node_model.proofs.CommitLemmas.{tables_left}
+use Rattle.node_reads.specs.Readings.{reading_of}
+use Rattle.node_reads.specs.ReadBy.{AllRead}
+use Rattle.node_reads.proofs.KeptReads.{stays}
 use Rattle.node_engine.specs.declared.notes.Note.{Note}
 use Rattle.node_engine.specs.declared.parts.Parts.{Parts}
 use Rattle.node_engine.specs.Kept.{node_view, notes_of, IsLive, NoteFits, PartsKept}
+use Rattle.node_engine.specs.KeptReads.{ReadsKept}
 
 -- the entry of a publication
 abbrev pub publication : ℕ → ℕ → DigestKind → Digest → Entry
@@ -91,3 +98,16 @@ published_parts old new table chunk row kept is = record {
 
     view : node_view new ≡ published table chunk (Some row) (node_view old)
     view = published_is old new table chunk row is
+
+-- each open transaction has its reading after a publication
+pub published_reads : (old new : Parts) (table chunk : ℕ) (row : CheckRow) → ReadsKept old → IsPublished table chunk row old new → new.reads.items ≡ old.reads.items → ReadsKept new
+published_reads old new table chunk row reads is same =
+    subst (λ (n : NodeView). AllRead n.schemas (fold n.schemas n.start n.history).tables new.txns new.reads.items) (sym (published_is old new table chunk row is))
+    (subst (λ (t : TableRows). AllRead old.schemas.tables t new.txns new.reads.items) (sym tables)
+    (λ b. stays old.schemas.tables (fold old.schemas.tables old.start old.history.entries).tables (txn_of b old.txns) (txn_of b new.txns) (reading_of b old.reads.items) (reading_of b new.reads.items)
+    (ap (txn_of b) is.txns) (ap (reading_of b) same) (reads b)))
+  where
+    tables : (fold old.schemas.tables old.start (old.history.entries ++ publication table chunk row.kind row.this ∷ [])).tables ≡ (fold old.schemas.tables old.start old.history.entries).tables
+    tables =
+        ap (λ (r : Replayed). r.tables) (fold_more old.schemas.tables old.start old.history.entries (publication table chunk row.kind row.this))
+        ∙ tables_left old.schemas.tables (SetMaster table chunk row.kind row.this) (fold old.schemas.tables old.start old.history.entries).tables tt

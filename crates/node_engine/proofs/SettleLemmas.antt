@@ -26,7 +26,8 @@ use Rattle.node_model.specs.declared.txns.Txn.{Txn}
 use Rattle.node_model.specs.Txns.{txn_of, with_txn, with_step, stepped_if}
 use Rattle.node_model.specs.Kept.{IsKept, WalkFits}
 use Rattle.node_model.specs.Calls.{Visit, after_call, visit_if, visited_if}
-use Rattle.node_model.specs.Node.{NodeView, live_row, plan_of, asked, plan_excluder, moved, taken, visited_unless}
+use Rattle.node_model.specs.Node.{NodeView, live_row, plan_of, asked, plan_excluder, moved, taken}
+use Rattle.node_model.specs.Waits.{visited_unless}
 use Rattle.node_model.specs.PutBack.{Noted, LeadsBack}
 use Rattle.node_model.proofs.CallLemmas.{call_kept, own_txn}
 use Rattle.node_model.proofs.CommitLemmas.{fits_there}

@@ -4,6 +4,11 @@ pub mod NotesParts
 pub mod Kept
 pub mod Answers
 pub mod Dues
+pub mod Cycles
 pub mod Undone
 pub mod Fresh
+pub mod KeptReads
+pub mod ReadDues
+pub mod ReadRows
+pub mod Commits
 pub mod NodeParts

@@ -1,17 +1,23 @@
 ghost use Rattle.std.specs.Prelude.{◌≡◌, ◌≤◌, ◌+◌, ◌++◌, [], ◌∷◌, None, Some, cond, length, IfOk, OnOk, OnErr};
-ghost use Rattle.std.specs.List.{AllByRecursion};
-ghost use Rattle.ptc_statement.specs.Fits.{IsClients};
+ghost use Rattle.std.specs.Option.{option_copied};
 ghost use Rattle.history.specs.Replay.{position_of};
 ghost use Rattle.node_model.specs.Txns.{txn_of, done_of};
 ghost use Rattle.node_model.specs.Node.{is_written, logged, written};
 ghost use Rattle.node_model.specs.Calls.{after_call, Commit as CommitCall};
 ghost use Rattle.node_engine.specs.Kept.{node_view, PartsKept};
+ghost use Rattle.node_engine.specs.KeptReads.{ReadsKept};
+ghost use Rattle.node_engine.specs.Commits.{sums_in};
+ghost use Rattle.node_reads.specs.Readings.{reading_of};
+ghost use Rattle.node_reads.specs.CheckChanges.{checks_with};
 ghost use Rattle.node_engine.specs.Answers.{IsIdle, commit_answer};
 
 use crate::parts::Parts;
+use checksum_table::Checks;
 use lock_table::Owner;
+use node_model::Txns;
+use node_reads::{Reading, forget, read_in, set_checks};
 use ptc_statement::{Statement, Statements};
-use row_types::R;
+use row_types::{Digest, R};
 use statement_log::{Entry, Log, Origin};
 use std::alloc::Global;
 
@@ -24,21 +30,75 @@ pub fn commit_parts(
     parts: &mut Parts,
 ) -> R<Option<u64>>
     requires kept { PartsKept parts.old }
+    requires reads { ReadsKept parts.old }
     requires idle { IsIdle owner.0 (node_view parts.old) }
-    requires clients { AllByRecursion IsClients (done_of (txn_of owner.0 parts.old.txns)) }
     ensures answer { IfOk result (λ position. position ≡ commit_answer owner.0 origin (node_view parts.old)) }
     ensures ok { OnOk result (node_view parts.new ≡ after_call (CommitCall owner origin) (node_view parts.old)) }
     ensures err { OnErr result (node_view parts.new ≡ node_view parts.old) }
     ensures kept { PartsKept parts.new }
+    ensures reads { ReadsKept parts.new }
 {
     parts.history.reserve()?;
+    let number = position_next(&parts.history, &origin);
+    checks_now(
+        alloc,
+        owner,
+        number,
+        &mut parts.checks,
+        &parts.txns,
+        parts.reads.as_slice(),
+    )?;
     let done = parts.txns.close(alloc, owner);
     let statements = logged(done);
     parts.locks.release(owner);
     parts.notes.forget(owner);
+    forget(&mut parts.reads, owner);
     parts.applied = applied_after(parts.applied, &origin);
     let position = write_entry(&mut parts.history, origin, statements);
     Ok(position)
+}
+
+/// The position that an entry of this origin takes next.
+fn position_next(history: &Log, origin: &Origin) -> u64
+    ensures { result ≡ position_of (length history.now.entries + 1) origin.now }
+{
+    match origin {
+        Origin::Applied(entry) => *entry,
+        Origin::Session(_) | Origin::Checksum | Origin::Sync { .. } | Origin::Local(_) => {
+            history.len() + 1
+        }
+    }
+}
+
+/// The check rows as the statements of an owner's transaction leave them, with the checksums that its
+/// CHECKSUMs made.
+fn checks_now(
+    alloc: Global,
+    owner: Owner,
+    position: u64,
+    checks: &mut Checks,
+    txns: &Txns,
+    reads: &[Reading],
+) -> R<()>
+    ensures ok { OnOk result (checks.new ≡ checks_with position (done_of (txn_of owner.0 txns.now)) (sums_in (reading_of owner.0 reads.now)) checks.old) }
+    ensures err { OnErr result (checks.new ≡ checks.old) }
+{
+    match txns.get(owner) {
+        None => Ok(()),
+        Some(txn) => {
+            let sums = sums_in(read_in(reads, owner));
+            set_checks(alloc, checks, txn.done.as_slice(), sums, position)
+        }
+    }
+}
+
+fn sums_in(reading: Option<&Reading>) -> &[Digest]
+    ensures { result.now ≡ sums_in (option_copied reading.entry) }
+{
+    match reading {
+        None => &[],
+        Some(reading) => reading.sums.as_slice(),
+    }
 }
 
 /// The statements that stand in the log.

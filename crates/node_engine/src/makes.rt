@@ -3,6 +3,7 @@ ghost use Rattle.std.specs.List.{AllByRecursion};
 ghost use Rattle.row_types.specs.Fit.{IsSchema, IsTable, AreTables};
 ghost use Rattle.node_model.specs.Calls.{fresh_node};
 ghost use Rattle.node_engine.specs.Kept.{node_view, PartsKept};
+ghost use Rattle.node_engine.specs.KeptReads.{ReadsKept};
 ghost use Rattle.node_engine.specs.Fresh.{fresh_tables};
 
 use crate::notes::Notes;
@@ -21,6 +22,7 @@ pub fn fresh_parts(alloc: Global, schemas: Schemas, start: Tables) -> R<Parts>
     requires start { AreTables schemas.tables start }
     ensures view { IfOk result (λ parts. node_view parts ≡ fresh_node schemas.tables start) }
     ensures kept { IfOk result (λ parts. PartsKept parts) }
+    ensures reads { IfOk result (λ parts. ReadsKept parts) }
 {
     let tables = fresh_tables(alloc, schemas.tables.as_slice(), start.as_slice())?;
     Ok(Parts {
@@ -33,6 +35,7 @@ pub fn fresh_parts(alloc: Global, schemas: Schemas, start: Tables) -> R<Parts>
         txns: Txns::new(alloc),
         locks: LockTable::new(alloc),
         notes: Notes::new(alloc),
+        reads: Vec::new(alloc),
     })
 }
 

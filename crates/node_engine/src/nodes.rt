@@ -3,28 +3,30 @@ ghost use Rattle.checksum_table.specs.Checks.{check_at};
 ghost use Rattle.node_engine.specs.declared.publishing.MasterFault.TheVariants.{NoCheck};
 ghost use Rattle.history.specs.Replay.{fold, applied_of};
 ghost use Rattle.node_model.specs.Waits.{next_wait};
-ghost use Rattle.node_model.specs.Txns.{txn_of, done_of, with_current};
+ghost use Rattle.node_model.specs.Txns.{txn_of};
 ghost use Rattle.node_model.specs.Node.{NodeView, begun, ended};
 ghost use Rattle.node_model.specs.Calls.{after_call, fresh_node, Visit as VisitCall, Start as StartCall, Commit as CommitCall, Publish as PublishCall};
 ghost use Rattle.std.specs.List.{AllByRecursion};
 ghost use Rattle.row_types.specs.Fit.{IsSchema, AreTables};
 ghost use Rattle.node_engine.specs.Answers.{IsUnderWay, IsIdle, IsLiveTable, walk_of, visit_answer, commit_answer};
-ghost use Rattle.ptc_statement.specs.Fits.{FitsSchemas, IsClients};
+ghost use Rattle.ptc_statement.specs.Fits.{FitsSchemas};
+ghost use Rattle.node_engine.specs.ReadRows.{read_rows_of};
 
 use crate::commits::commit_parts;
 use crate::makes::fresh_parts;
+use crate::next_starts::start_and_visit_parts;
 use crate::parts::Parts;
 use crate::publishing::{MasterFault, publish_parts};
 use crate::rollbacks::rollback_parts;
 use crate::starts::{begin_parts, start_parts};
-use crate::views::{is_under_way, live_in};
+use crate::views::{is_under_way, live_in, read_rows_in};
 use crate::visits::{Visit, visit_parts, waits_in};
 use checksum_table::Checks;
 use lock_table::Owner;
 use node_model::Part;
 use ordered_table::Table;
 use ptc_statement::Statement;
-use row_types::{R, Schemas, Tables};
+use row_types::{R, Row, Schemas, Tables};
 use statement_log::{Log, Origin};
 use std::alloc::Global;
 use std::marker::Model;
@@ -112,6 +114,15 @@ impl Node {
         Ok(by)
     }
 
+    /// The rows that the last locking read took that is done in an owner's open transaction: of its reach, as
+    /// the transaction saw them, those of which its condition was true. They stay so until the transaction
+    /// ends, whatever others commit; none where there is no such read.
+    pub fn read_rows(&self, owner: Owner) -> &[Row]
+        ensures { result.now ≡ read_rows_of owner.0 self.now }
+    {
+        read_rows_in(&self.parts, owner)
+    }
+
     /// The live table of this number: its row at each key is the live row.
     pub fn live(&self, number: u32) -> Option<&Table>
         ensures { IsLiveTable self.now number (option_copied result) }
@@ -145,7 +156,6 @@ impl Node {
     /// no statement is logged and the origin is a session. Out of memory changes nothing.
     pub fn commit(&mut self, alloc: Global, owner: Owner, origin: Origin) -> R<Option<u64>>
         requires idle { IsIdle owner.0 self.old }
-        requires clients { AllByRecursion IsClients (done_of (txn_of owner.0 self.old.txns)) }
         ensures answer { IfOk result (λ position. position ≡ commit_answer owner.0 origin self.old) }
         ensures ok { OnOk result (self.new ≡ after_call (CommitCall owner origin) self.old) }
         ensures err { OnErr result (self.new ≡ self.old) }
@@ -180,7 +190,8 @@ impl Node {
         rollback_parts(owner, &mut self.parts);
     }
 
-    /// The next visit of an owner's statement in progress; out of memory changes nothing.
+    /// The next visit of an owner's statement in progress, and what it answers. Waits and out of memory change
+    /// nothing; Deadlock rolls back the victim's transaction, and changes nothing else.
     pub fn visit(&mut self, alloc: Global, owner: Owner) -> R<Visit>
         requires { IsUnderWay owner.0 self.old }
         ensures answer { IfOk result (λ answer. answer ≡ visit_answer owner.0 self.old) }
@@ -188,6 +199,19 @@ impl Node {
         ensures err { OnErr result (self.new ≡ self.old) }
     {
         let answer = visit_parts(alloc, owner, &mut self.parts)?;
+        Ok(answer)
+    }
+
+    /// Starts a statement in a transaction that has none in progress, and makes its first visit. Out of memory
+    /// changes nothing.
+    pub fn start_and_visit(&mut self, alloc: Global, owner: Owner, statement: Statement) -> R<Visit>
+        requires idle { IsIdle owner.0 self.old }
+        requires fits { FitsSchemas self.old.schemas statement }
+        ensures answer { IfOk result (λ answer. answer ≡ visit_answer owner.0 (after_call (StartCall owner statement) self.old)) }
+        ensures ok { OnOk result (self.new ≡ after_call (VisitCall owner) (after_call (StartCall owner statement) self.old)) }
+        ensures err { OnErr result (self.new ≡ self.old) }
+    {
+        let answer = start_and_visit_parts(alloc, owner, statement, &mut self.parts)?;
         Ok(answer)
     }
 }

@@ -3,6 +3,7 @@ ghost use Rattle.ptc_statement.specs.declared.statements.Statement.TheVariants.{
 ghost use Rattle.checksum_table.specs.Checks.{check_at};
 ghost use Rattle.node_model.specs.Calls.{after_call, Publish};
 ghost use Rattle.node_engine.specs.Kept.{node_view, PartsKept};
+ghost use Rattle.node_engine.specs.KeptReads.{ReadsKept};
 ghost use Rattle.node_engine.specs.declared.publishing.MasterFault.TheVariants.{NoCheck};
 
 use crate::commits::append_reserved;
@@ -38,12 +39,14 @@ pub fn publish_parts(
     parts: &mut Parts,
 ) -> Result<u64, MasterFault>
     requires kept { PartsKept parts.old }
+    requires reads { ReadsKept parts.old }
     ensures position { IfOk result (λ position. position ≡ length parts.new.history.entries) }
     ensures ok { OnOk result (node_view parts.new ≡ after_call (Publish table chunk) (node_view parts.old)) }
     ensures there { OnOk result (IsSome (check_at table chunk parts.old.checks)) }
     ensures none { IfErr result (λ fault. (fault ≡ NoCheck) ↔ (check_at table chunk parts.old.checks ≡ None)) }
     ensures err { OnErr result (node_view parts.new ≡ node_view parts.old) }
     ensures kept { PartsKept parts.new }
+    ensures reads { ReadsKept parts.new }
 {
     let (kind, this) = match parts.checks.get(table, chunk) {
         None => return Err(MasterFault::NoCheck),

@@ -1,23 +1,28 @@
 ghost use Rattle.std.specs.Prelude.{◌≡◌, length, ◌==◌, ◌<◌};
 ghost use Rattle.node_model.specs.Node.{ended};
 ghost use Rattle.node_engine.specs.Kept.{node_view, PartsKept};
+ghost use Rattle.node_engine.specs.KeptReads.{ReadsKept};
 ghost use Rattle.node_engine.specs.Undone.{IsUndoing, CanPutBack, IsPutBack};
 
 use crate::notes::{Note, Notes, write_at};
 use crate::parts::Parts;
 use lock_table::Owner;
+use node_reads::forget;
 use ordered_table::Table;
 use row_types::Schemas;
 
 /// An owner's transaction, what it changed and what it holds are gone. It takes no memory.
 pub fn rollback_parts(owner: Owner, parts: &mut Parts)
-    requires { PartsKept parts.old }
+    requires kept { PartsKept parts.old }
+    requires reads { ReadsKept parts.old }
     ensures view { node_view parts.new ≡ ended owner.0 (node_view parts.old) }
     ensures kept { PartsKept parts.new }
+    ensures reads { ReadsKept parts.new }
 {
     undo_all(&mut parts.tables, &mut parts.notes, owner, &parts.schemas);
     parts.txns.end(owner);
     parts.locks.release(owner);
+    forget(&mut parts.reads, owner);
 }
 
 /// Puts back all that an owner has noted, the last first.

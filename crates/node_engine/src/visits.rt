@@ -5,17 +5,25 @@ ghost use Rattle.ptc_statement.specs.Effect.{table_of};
 ghost use Rattle.node_model.specs.Waits.{next_wait};
 ghost use Rattle.node_model.specs.Calls.{after_call, Visit as VisitCall};
 ghost use Rattle.node_engine.specs.Kept.{node_view, PartsKept};
+ghost use Rattle.node_engine.specs.KeptReads.{ReadsKept};
+ghost use Rattle.node_engine.specs.ReadDues.{row_under, HasGain};
+ghost use Rattle.node_reads.specs.Readings.{HasRoomOf};
+ghost use Rattle.std.specs.List.{slice_get};
+ghost use Rattle.std.specs.Option.{option_copied};
 ghost use Rattle.node_engine.specs.Answers.{IsUnderWay, visit_answer, duplicate_key, answer_of};
 ghost use Rattle.node_engine.specs.Dues.{plan_in, change_in, IsDue, HasTable, IsWithin, HasRoomFor, HasRoomAt, IsRoomier, CanWrite, CanWriteAt, IsWritten, IsWrittenAt, IsFree, lock_wanted};
 ghost use Rattle.row_types.specs.declared.lock_modes.LockMode.TheVariants.{Exclusive};
 
+use crate::cycles::{cycle_in, victim_in};
 use crate::notes::{Change, Notes, change_noted};
 use crate::parts::Parts;
-use lock_table::{LockTable, Owner, Want};
+use crate::rollbacks::rollback_parts;
+use lock_table::{LockTable, Owner, Owners, Want};
 use node_model::{Part, Walk};
+use node_reads::{Gain, gain_of, grow_of, read_in, reserve_of};
 use ordered_table::Table;
 use ptc_statement::{Statement, act};
-use row_types::{Edge, Key, LockMode, R, Schemas, Span};
+use row_types::{Edge, Key, LockMode, R, Row, Schemas, Span};
 use std::alloc::Global;
 use txn_walk::{Plan, next_plan};
 
@@ -31,6 +39,10 @@ pub enum Visit {
     Duplicate { key: Key },
     /// The least other owner whose lock excludes the one that is wanted. Nothing changed.
     Waits { by: Owner },
+    /// Waiting would close a cycle of owners, each of which waits for the next and the last for the first, the
+    /// visit's own. The victim's transaction is rolled back: it is that owner or, where it applies an
+    /// entry, the first on the cycle that applies none.
+    Deadlock { victim: Owner, cycle: Owners },
 }
 
 /// The next visit of an owner: its plan, who excludes it, whether it is refused and at which key, and the
@@ -48,18 +60,100 @@ pub struct Due {
 /// The visit of an owner's statement in progress.
 pub fn visit_parts(alloc: Global, owner: Owner, parts: &mut Parts) -> R<Visit>
     requires kept { PartsKept parts.old }
+    requires reads { ReadsKept parts.old }
     requires under_way { IsUnderWay owner.0 (node_view parts.old) }
     ensures answer { IfOk result (λ answer. answer ≡ visit_answer owner.0 (node_view parts.old)) }
     ensures ok { OnOk result (node_view parts.new ≡ after_call (VisitCall owner) (node_view parts.old)) }
     ensures err { OnErr result (node_view parts.new ≡ node_view parts.old) }
     ensures kept { PartsKept parts.new }
+    ensures reads { ReadsKept parts.new }
 {
+    make_read_room(parts, owner)?;
     let due = due_now(alloc, owner, parts)?;
     if let Some(by) = due.by {
-        return Ok(Visit::Waits { by });
+        return wait_or_break(alloc, owner, by, &due, parts);
     }
+    let gain = gain_now(alloc, owner, &due.plan.on_key, parts)?;
     make_room(parts, &due.change)?;
-    settle(parts, owner, due)
+    settle(alloc, parts, owner, due, gain)
+}
+
+/// The answer of an owner that waits; where following waits comes back to it the victim is rolled back.
+fn wait_or_break(alloc: Global, owner: Owner, by: Owner, due: &Due, parts: &mut Parts) -> R<Visit>
+    requires kept { PartsKept parts.old }
+    requires reads { ReadsKept parts.old }
+    requires due { IsDue owner.0 (node_view parts.old) due.now }
+    requires by { due.now.by ≡ Some by }
+    ensures answer { IfOk result (λ answer. answer ≡ visit_answer owner.0 (node_view parts.old)) }
+    ensures ok { OnOk result (node_view parts.new ≡ after_call (VisitCall owner) (node_view parts.old)) }
+    ensures err { OnErr result (node_view parts.new ≡ node_view parts.old) }
+    ensures kept { PartsKept parts.new }
+    ensures reads { ReadsKept parts.new }
+{
+    match cycle_in(alloc, owner, parts)? {
+        None => Ok(Visit::Waits { by }),
+        Some(cycle) => {
+            let victim = victim_in(&parts.txns, owner, cycle.as_slice());
+            rollback_parts(victim, parts);
+            Ok(Visit::Deadlock { victim, cycle })
+        }
+    }
+}
+
+/// Makes room for what a visit of an owner reads.
+fn make_read_room(parts: &mut Parts, owner: Owner) -> R<()>
+    requires kept { PartsKept parts.old }
+    requires reads { ReadsKept parts.old }
+    requires under_way { IsUnderWay owner.0 (node_view parts.old) }
+    ensures room { OnOk result (HasRoomOf owner.0 parts.new.reads.items) }
+    ensures view { node_view parts.new ≡ node_view parts.old }
+    ensures kept { PartsKept parts.new }
+    ensures reads { ReadsKept parts.new }
+{
+    reserve_of(&mut parts.reads, owner)?;
+    Ok(())
+}
+
+/// What an owner's statement in progress reads at the key of its visit.
+fn gain_now(alloc: Global, owner: Owner, on_key: &Option<(Key, LockMode)>, parts: &Parts) -> R<Gain>
+    requires kept { PartsKept parts.now }
+    requires reads { ReadsKept parts.now }
+    requires under_way { IsUnderWay owner.0 (node_view parts.now) }
+    ensures { IfOk result (λ gain. HasGain owner.0 (node_view parts.now) parts.now.reads.items on_key.now gain) }
+{
+    let Some(txn) = parts.txns.get(owner) else {
+        unreachable!()
+    };
+    let Some(walk) = &txn.current else {
+        unreachable!()
+    };
+    let Some(reading) = read_in(parts.reads.as_slice(), owner) else {
+        unreachable!()
+    };
+    let number = walk.statement.table();
+    let Some(schema) = parts.schemas.tables.get(number) else {
+        unreachable!()
+    };
+    let row = row_under(parts.tables.as_slice(), number, on_key);
+    let gain = gain_of(alloc, &walk.statement, schema, row, reading.sum)?;
+    Ok(gain)
+}
+
+/// The row of a table at the key of a lock.
+fn row_under<'a>(
+    tables: &'a [Table],
+    number: u32,
+    on_key: &Option<(Key, LockMode)>,
+) -> Option<&'a Row>
+    ensures { option_copied result ≡ row_under on_key.now (slice_get tables.now number) }
+{
+    match on_key {
+        None => None,
+        Some((key, _)) => match tables.get(number as usize) {
+            None => None,
+            Some(table) => table.get(key),
+        },
+    }
 }
 
 /// Whom an owner's statement in progress waits for, if it has one.
@@ -279,6 +373,7 @@ fn make_room(parts: &mut Parts, change: &Option<Change>) -> R<()>
     ensures room { OnOk result (HasRoomFor parts.new.tables.items parts.new.notes change.now) }
     ensures kept { PartsKept parts.new }
     ensures view { node_view parts.new ≡ node_view parts.old }
+    ensures reads { parts.new.reads ≡ parts.old.reads }
 {
     parts.locks.reserve()?;
     match change {
@@ -301,16 +396,20 @@ fn room_at(tables: &mut Vec<Table>, notes: &mut Notes, number: u32) -> R<()>
 }
 
 /// Does what is due, all or nothing.
-fn settle(parts: &mut Parts, owner: Owner, due: Due) -> R<Visit>
+fn settle(alloc: Global, parts: &mut Parts, owner: Owner, due: Due, gain: Gain) -> R<Visit>
     requires kept { PartsKept parts.old }
+    requires reads { ReadsKept parts.old }
     requires due { IsDue owner.0 (node_view parts.old) due }
     requires free { due.by ≡ None }
     requires locks { 2 ≤ parts.old.locks.spare }
     requires room { HasRoomFor parts.old.tables.items parts.old.notes due.change }
+    requires read_room { HasRoomOf owner.0 parts.old.reads.items }
+    requires gain { HasGain owner.0 (node_view parts.old) parts.old.reads.items due.plan.on_key gain }
     ensures answer { IfOk result (λ answer. answer ≡ visit_answer owner.0 (node_view parts.old)) }
     ensures ok { OnOk result (node_view parts.new ≡ after_call (VisitCall owner) (node_view parts.old)) }
     ensures err { OnErr result (node_view parts.new ≡ node_view parts.old) }
     ensures kept { PartsKept parts.new }
+    ensures reads { ReadsKept parts.new }
 {
     let Due {
         number,
@@ -330,6 +429,7 @@ fn settle(parts: &mut Parts, owner: Owner, due: Due) -> R<Visit>
     parts.txns.step(owner, refused, ends, after)?;
     take_due(&mut parts.locks, owner, number, gap, on_key);
     write_due(&mut parts.tables, &mut parts.notes, owner, change);
+    grow_of(alloc, &mut parts.reads, owner, gain, ends);
     Ok(answer_of(duplicate, ends))
 }
 
