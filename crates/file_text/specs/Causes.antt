@@ -38,7 +38,7 @@ names_among (item ∷ items) = names_among items
 
 -- the items from the front of the line pass the limit
 abbrev pub PassesAt : LimitKind → List Said → Item → List Item → Type 0
-PassesAt Columns before item front = 17 < names_among (front ++ item ∷ [])     -- the table's name, and 17 columns
+PassesAt Columns before item front = 17 < names_among (front ++ item ∷ [])  -- the table's name, and 17 columns
 PassesAt ReplicaLimit before (Count count) front = 8 < count
 PassesAt Locals before (LocalWord replica session) front = 16 ≤ locals_in replica before
 PassesAt ScheduleLimit before (Turns word) front = 10000000 < scheduled_in before + turns_among (front ++ Turns word ∷ [])

@@ -142,9 +142,9 @@ pub record Begins (section : Section) (before : List Said) (parts : List Part) (
 
 -- how the part behind them fails
 pub data Misfit : Type 0 where
-  Missing : Misfit           -- there is none, and the line is not whole
-  Unfit : Misfit             -- it is no item that may stand there
-  Misplaced : Digit → Misfit     -- it is one, but a number in it is out of its range or its order
+  Missing : Misfit  -- there is none, and the line is not whole
+  Unfit : Misfit  -- it is no item that may stand there
+  Misplaced : Digit → Misfit  -- it is one, but a number in it is out of its range or its order
 
 -- `left` are the parts behind the ones that fit
 abbrev pub Misses : Section → List Said → List Item → List Part → Misfit → Type 0

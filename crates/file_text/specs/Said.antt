@@ -34,7 +34,7 @@ pub data ScheduleWord : Type 0 where
 -- ---- literals of a ROW
 
 pub data Literal : Type 0 where
-  Number : Bool → ℕ → Literal     -- whether a `-` stands before it
+  Number : Bool → ℕ → Literal  -- whether a `-` stands before it
   Quoted : List ℕ → Literal
   NullWord : Literal
 
@@ -155,12 +155,12 @@ spelling NullKeyword = codes "NULL"
 -- ---- items: what one part of a line is
 
 pub data Item : Type 0 where
-  Word : Keyword → Item         -- in any mix of capital and small letters
+  Word : Keyword → Item  -- in any mix of capital and small letters
   Sign : ℕ → Item
   Name : List ℕ → Item
   Version : ℕ → Item
-  Count : ℕ → Item              -- of replicas
-  Length : ℕ → Item             -- of a VARCHAR
+  Count : ℕ → Item  -- of replicas
+  Length : ℕ → Item  -- of a VARCHAR
   NodeWord : Node → Item
   SessionWord : ℕ → Item
   LocalWord : ℕ → ℕ → Item
