@@ -1,5 +1,6 @@
 -- The condition that a tree without a fault is, fits.
 use Rattle.std.proofs.Common.{◌≡◌, ◌⊎◌, ℕ, suc, ◌≤◌, ◌+◌, max, Bool, true, false, List, [], ◌∷◌, ◌++◌, None, refl, sym, ◌∙◌, ap, subst, inl, inr, arith}
+use Rattle.std.proofs.lemmas.Bool.{false≢true}
 use Rattle.std.specs.Prelude.{◌&&◌, ◌||◌}
 use Rattle.std.specs.Option.{option_or}
 use Rattle.row_types.specs.declared.table_schema.Schema.{Schema}
@@ -26,7 +27,7 @@ use Rattle.statement_text_laws.specs.SpelledWords.{expr_spells, cond_spells_at, 
 use Rattle.statement_round_trip.proofs.PlacedLemmas.{at, empty, neither, no_place}
 use Rattle.statement_round_trip.proofs.KindLemmas.{is_a_number}
 use Rattle.statement_fit_laws.proofs.PrintLemmas.{AllPrint, front_prints, back_prints}
-use Rattle.statement_fit_laws.proofs.ExprFitLemmas.{ExprKnown, expr_known, no_text, false_true}
+use Rattle.statement_fit_laws.proofs.ExprFitLemmas.{ExprKnown, expr_known, no_text}
 use Rattle.statement_fit_laws.proofs.RowFitLemmas.{row_known}
 
 pub record CondKnown (schema : Schema) (s : Shape) : Type 0 where
@@ -169,7 +170,7 @@ or_known schema place l r i j = record {
 
 prefix_known : (schema : Schema) (place : ℕ) (word : Word) (s : Shape) → 1 ≤ prefix_level word → true ≡ gives word → (wants word ≡ true → CondKnown schema s) → CondKnown schema (Prefix (at word place) s)
 prefix_known schema place w.Not s l e i = not_known schema place s (i refl)
-prefix_known schema place (w.Math Minus) s l e i = absurd (false_true (sym e))
+prefix_known schema place (w.Math Minus) s l e i = absurd (false≢true (sym e))
 prefix_known schema place _ s l e i = absurd (omega arith)
 
 binary_known : (schema : Schema) (place : ℕ) (word : Word) (l r : Shape) → 1 ≤ level word → true ≡ gives word → ((c : Bool) → wants word ≡ c → true ≡ c → CondKnown schema l × CondKnown schema r) → ((c : Bool) → wants word ≡ c → false ≡ c → ExprKnown schema l × ExprKnown schema r)
@@ -177,11 +178,11 @@ binary_known : (schema : Schema) (place : ℕ) (word : Word) (l r : Shape) → 1
 binary_known schema place (w.Compare op) l r h e i j = let q = j false refl refl in compared_known schema place op l r q.0 q.1
 binary_known schema place w.And l r h e i j = let q = i true refl refl in and_known schema place l r q.0 q.1
 binary_known schema place w.Or l r h e i j = let q = i true refl refl in or_known schema place l r q.0 q.1
-binary_known schema place (w.Math o) l r h e i j = absurd (false_true (sym e))
+binary_known schema place (w.Math o) l r h e i j = absurd (false≢true (sym e))
 binary_known schema place _ l r h e i j = absurd (omega arith)
 
 pub cond_known : (schema : Schema) (base : Bool) (n : ℕ) (s : Shape) → IsAt (setting base (keys_of schema)) n true s → unknown_in schema (whole s) ≡ [] → CondKnown schema s
-cond_known schema base n (Leaf t) a u = absurd (false_true (sym a.0))
+cond_known schema base n (Leaf t) a u = absurd (false≢true (sym a.0))
 cond_known schema base n (Prefix t s) a u = prefix_known schema t.place t.word s a.1 a.2 (λ e. cond_known schema base (prefix_level t.word) s (subst (λ (b : Bool). IsAt (setting base (keys_of schema)) (prefix_level t.word) b s) e a.3) u)
 cond_known schema base n (Binary l t r) a u =
     let q = empty (unknown_in schema (whole l)) (unknown_in schema (whole r)) u in
@@ -200,7 +201,7 @@ cond_known schema base n (Range x b l d h) a u =
     range_known schema b d x l h (expr_known schema (setting base (keys_of schema)) 5 x a.4 q.0) (expr_known schema (setting base (keys_of schema)) 5 l a.5 v.0) (expr_known schema (setting base (keys_of schema)) 5 h a.6 v.1)
 cond_known schema base n (Nullness x t more) a u = null_known schema t more x (expr_known schema (setting base (keys_of schema)) 5 x a.4 u)
 cond_known schema base n (Paren o s p) a u = let i = cond_known schema base 1 s a.2 u in record { condition = i.condition; is = i.is; high = i.high; sound = i.sound; spells = λ q. i.spells (front_prints (tokens_of s) (p ∷ []) q.1) }
-cond_known schema base n (Signed t d) a u = absurd (false_true (sym a.0))
+cond_known schema base n (Signed t d) a u = absurd (false≢true (sym a.0))
 cond_known schema base n (RowTest ts) a u =
     let i = row_known schema base ts a.2 in record {
       condition = roll-Cond (c.KeyCompare i.op i.key);

@@ -1,5 +1,6 @@
 -- The expression that a tree without a fault is, fits.
-use Rattle.std.proofs.Common.{◌≡◌, ℕ, pos, negsuc, suc, zero, ◌≤◌, ◌+◌, max, min, Bool, true, false, List, [], ◌∷◌, Option, None, Some, refl, sym, ◌∙◌, ap, subst, arith}
+use Rattle.std.proofs.Common.{true≢false, ◌≡◌, ℕ, pos, negsuc, suc, zero, ◌≤◌, ◌+◌, max, min, Bool, true, false, List, [], ◌∷◌, Option, None, Some, refl, sym, ◌∙◌, ap, subst, arith}
+use Rattle.std.proofs.lemmas.Bool.{false≢true}
 use Rattle.std.specs.Prelude.{◌&&◌, leb, is_some, if◌then◌else◌}
 use Rattle.std.specs.List.{slice_get}
 use Rattle.std.specs.Option.{option_or, option_map_or}
@@ -37,12 +38,6 @@ pub record ExprKnown (schema : Schema) (s : Shape) : Type 0 where
   pub numbers : text_operand schema (whole s) ≡ None → is_text (sort_of schema (whole s)) ≡ false → fit.is_number schema expr ≡ true
   pub texts : text_operand schema (whole s) ≡ None → is_a_number (sort_of schema (whole s)) ≡ false → fit.is_text schema expr ≡ true
   pub spells : AllPrint (tokens_of s) → expr_spells schema expr ≡ true
-
-true_false : true ≡ false → ⊥
-true_false e = cc
-
-pub false_true : false ≡ true → ⊥
-false_true e = cc
 
 -- ---- leaves
 
@@ -111,14 +106,14 @@ leaf_known schema place (w.Name name) o u = by_column (column_named schema name)
           texts = λ o s. fold-roll-Expr Bool (is_text_at schema) (e.Cell k) ∙ text_cell schema k there.0 there.1 (ap (λ (c : Option ℕ). is_a_number (sort_of_number schema c)) (sym f) ∙ s);
           spells = λ p. fold-roll-Expr Bool (expr_spells_at schema) (e.Cell k) ∙ ap is_some there.1;
         }
-leaf_known schema place (w.Number n) o u = lit_known schema (Leaf (at (w.Number n) place)) (Int (pos (min n 9223372036854775807))) refl refl (λ s. refl) (λ s. absurd (true_false s)) (λ p. within n)
-leaf_known schema place (w.Text text) o u = lit_known schema (Leaf (at (w.Text text) place)) (Text text) refl refl (λ s. absurd (true_false s)) (λ s. refl) (λ p. p.0)
+leaf_known schema place (w.Number n) o u = lit_known schema (Leaf (at (w.Number n) place)) (Int (pos (min n 9223372036854775807))) refl refl (λ s. refl) (λ s. absurd (true≢false s)) (λ p. within n)
+leaf_known schema place (w.Text text) o u = lit_known schema (Leaf (at (w.Text text) place)) (Text text) refl refl (λ s. absurd (true≢false s)) (λ s. refl) (λ p. p.0)
 leaf_known schema place w.Null o u = lit_known schema (Leaf (at w.Null place)) Null refl refl (λ s. refl) (λ s. refl) (λ p. refl)
 leaf_known schema place _ o u = cc
 
 signed_known : (schema : Schema) (m n : ℕ) (first second : Word) → is_minus first ≡ true → is_number second ≡ true → ExprKnown schema (Signed (at first m) (at second n))
-signed_known schema m n first (w.Number zero) i j = lit_known schema (Signed (at first m) (at (w.Number zero) n)) (Int (pos 0)) refl refl (λ s. refl) (λ s. absurd (true_false s)) (λ p. refl)
-signed_known schema m n first (w.Number (suc k)) i j = lit_known schema (Signed (at first m) (at (w.Number (suc k)) n)) (Int (negsuc (min k 9223372036854775807))) refl refl (λ s. refl) (λ s. absurd (true_false s)) (λ p. within k)
+signed_known schema m n first (w.Number zero) i j = lit_known schema (Signed (at first m) (at (w.Number zero) n)) (Int (pos 0)) refl refl (λ s. refl) (λ s. absurd (true≢false s)) (λ p. refl)
+signed_known schema m n first (w.Number (suc k)) i j = lit_known schema (Signed (at first m) (at (w.Number (suc k)) n)) (Int (negsuc (min k 9223372036854775807))) refl refl (λ s. refl) (λ s. absurd (true≢false s)) (λ p. within k)
 signed_known schema m n first _ i j = cc
 
 -- ---- signs
@@ -134,7 +129,7 @@ negated_known schema place s i = record {
   high = fold-roll-Expr ℕ expr_height_at (e.Neg i.expr) ∙ ap (λ (n : ℕ). n + 1) i.high;
   numbers = λ o f. let q = neither (text_operand schema (whole s)) (own_text schema (whole s)) o in
       fold-roll-Expr Bool (is_number_at schema) (e.Neg i.expr) ∙ i.numbers q.0 (no_text (is_text (sort_of schema (whole s))) (begins_at (whole s)) q.1);
-  texts = λ o f. absurd (true_false f);
+  texts = λ o f. absurd (true≢false f);
   spells = λ p. fold-roll-Expr Bool (expr_spells_at schema) (e.Neg i.expr) ∙ i.spells p.1;
 }
 
@@ -165,7 +160,7 @@ joined_known schema place sign l r i j = by_sign sign
       is = means Plus;
       high = fold-roll-Expr ℕ expr_height_at (e.Add i.expr j.expr) ∙ highs;
       numbers = λ o f. fold-roll-Expr Bool (is_number_at schema) (e.Add i.expr j.expr) ∙ both_are o;
-      texts = λ o f. absurd (true_false f);
+      texts = λ o f. absurd (true≢false f);
       spells = λ p. fold-roll-Expr Bool (expr_spells_at schema) (e.Add i.expr j.expr) ∙ both_true (expr_spells schema i.expr) (expr_spells schema j.expr) (i.spells (front_prints (tokens_of l) (at (w.Math Plus) place ∷ tokens_of r) p)) (j.spells (back_prints (tokens_of l) (at (w.Math Plus) place ∷ tokens_of r) p).1);
     }
     by_sign Minus = record {
@@ -173,7 +168,7 @@ joined_known schema place sign l r i j = by_sign sign
       is = means Minus;
       high = fold-roll-Expr ℕ expr_height_at (e.Sub i.expr j.expr) ∙ highs;
       numbers = λ o f. fold-roll-Expr Bool (is_number_at schema) (e.Sub i.expr j.expr) ∙ both_are o;
-      texts = λ o f. absurd (true_false f);
+      texts = λ o f. absurd (true≢false f);
       spells = λ p. fold-roll-Expr Bool (expr_spells_at schema) (e.Sub i.expr j.expr) ∙ both_true (expr_spells schema i.expr) (expr_spells schema j.expr) (i.spells (front_prints (tokens_of l) (at (w.Math Minus) place ∷ tokens_of r) p)) (j.spells (back_prints (tokens_of l) (at (w.Math Minus) place ∷ tokens_of r) p).1);
     }
     by_sign Times = record {
@@ -181,7 +176,7 @@ joined_known schema place sign l r i j = by_sign sign
       is = means Times;
       high = fold-roll-Expr ℕ expr_height_at (e.Mul i.expr j.expr) ∙ highs;
       numbers = λ o f. fold-roll-Expr Bool (is_number_at schema) (e.Mul i.expr j.expr) ∙ both_are o;
-      texts = λ o f. absurd (true_false f);
+      texts = λ o f. absurd (true≢false f);
       spells = λ p. fold-roll-Expr Bool (expr_spells_at schema) (e.Mul i.expr j.expr) ∙ both_true (expr_spells schema i.expr) (expr_spells schema j.expr) (i.spells (front_prints (tokens_of l) (at (w.Math Times) place ∷ tokens_of r) p)) (j.spells (back_prints (tokens_of l) (at (w.Math Times) place ∷ tokens_of r) p).1);
     }
 
@@ -189,14 +184,14 @@ joined_known schema place sign l r i j = by_sign sign
 
 prefix_known : (schema : Schema) (place : ℕ) (word : Word) (s : Shape) → 1 ≤ prefix_level word → false ≡ gives word → (wants word ≡ false → ExprKnown schema s) → ExprKnown schema (Prefix (at word place) s)
 prefix_known schema place (w.Math Minus) s l c i = negated_known schema place s (i refl)
-prefix_known schema place w.Not s l c i = absurd (false_true c)
+prefix_known schema place w.Not s l c i = absurd (false≢true c)
 prefix_known schema place _ s l c i = absurd (omega arith)
 
 binary_known : (schema : Schema) (place : ℕ) (word : Word) (l r : Shape) → 1 ≤ level word → false ≡ gives word → (wants word ≡ false → ExprKnown schema l) → (wants word ≡ false → ExprKnown schema r) → ExprKnown schema (Binary l (at word place) r)
 binary_known schema place (w.Math sign) l r h c i j = joined_known schema place sign l r (i refl) (j refl)
-binary_known schema place w.And l r h c i j = absurd (false_true c)
-binary_known schema place w.Or l r h c i j = absurd (false_true c)
-binary_known schema place (w.Compare op) l r h c i j = absurd (false_true c)
+binary_known schema place w.And l r h c i j = absurd (false≢true c)
+binary_known schema place w.Or l r h c i j = absurd (false≢true c)
+binary_known schema place (w.Compare op) l r h c i j = absurd (false≢true c)
 binary_known schema place _ l r h c i j = absurd (omega arith)
 
 pub expr_known : (schema : Schema) (g : Setting) (n : ℕ) (s : Shape) → IsAt g n false s → unknown_in schema (whole s) ≡ [] → ExprKnown schema s
@@ -205,8 +200,8 @@ expr_known schema g n (Prefix t s) a u = prefix_known schema t.place t.word s a.
 expr_known schema g n (Binary l t r) a u =
     let q = empty (unknown_in schema (whole l)) (unknown_in schema (whole r)) u in
     binary_known schema t.place t.word l r a.1 a.2 (λ e. expr_known schema g (left_level t.word) l (subst (λ (b : Bool). IsAt g (left_level t.word) b l) e a.3) q.0) (λ e. expr_known schema g (suc (level t.word)) r (subst (λ (b : Bool). IsAt g (suc (level t.word)) b r) e a.4) q.1)
-expr_known schema g n (Range x b l a h) i u = absurd (false_true i.1)
-expr_known schema g n (Nullness x i more) a u = absurd (false_true a.1)
+expr_known schema g n (Range x b l a h) i u = absurd (false≢true i.1)
+expr_known schema g n (Nullness x i more) a u = absurd (false≢true a.1)
 expr_known schema g n (Paren o s p) a u = let i = expr_known schema g 1 s a.2 u in record { expr = i.expr; is = i.is; high = i.high; numbers = i.numbers; texts = i.texts; spells = λ q. i.spells (front_prints (tokens_of s) (p ∷ []) q.1) }
 expr_known schema g n (Signed t d) a u = signed_known schema t.place d.place t.word d.word a.1 a.2
-expr_known schema g n (RowTest ts) a u = absurd (false_true a.1)
+expr_known schema g n (RowTest ts) a u = absurd (false≢true a.1)

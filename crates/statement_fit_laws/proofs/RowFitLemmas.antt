@@ -24,6 +24,7 @@ use Rattle.statement_grammar.specs.Kinds.{OfNumber, OfText, sort_of, sort_of_kin
 use Rattle.statement_grammar.specs.Sentence.{Keys, setting}
 use Rattle.statement_grammar.specs.FirstFault.{two_names, keys_of}
 use Rattle.statement_grammar.specs.Terms.{OfCond, terms, key_values, op_of}
+use Rattle.statement_grammar.proofs.Complete.{filled_is}
 use Rattle.statement_grammar.proofs.BasicLemmas.{both_true, equal}
 use Rattle.statement_text_laws.specs.SpelledWords.{literal_spells, key_spells}
 use Rattle.statement_round_trip.proofs.PlacedLemmas.{at, empty, no_place}
@@ -40,14 +41,10 @@ record Filled (g : Setting) (slots : List Slot) (test : Word → Bool) (ts : Lis
   passes : test token.word ≡ true
   fills : FillSlots g slots rest
 
-passing : (b : Bool) (more : List Slot) → filled_by b ≡ Some more → (b ≡ true) × (more ≡ [])
-passing true more e = let f : [] ≡ more = cc in (refl, sym f)
-passing false more e = cc
-
 fill_one : (g : Setting) (slot : Slot) (slots : List Slot) (test : Word → Bool) (ts : List Token) → ((word : Word) → slot_after g slot word ≡ filled_by (test word)) → FillSlots g (slot ∷ slots) ts → Filled g slots test ts
 fill_one g slot slots test [] is h = absurd h
 fill_one g slot slots test (t ∷ ts) is h =
-    let q = passing (test t.word) h.0 (sym (is t.word) ∙ h.1) in
+    let q = filled_is (test t.word) h.0 (sym (is t.word) ∙ h.1) in
     record { token = t; rest = ts; are = refl; passes = q.0; fills = subst (λ (more : List Slot). FillSlots g (more ++ slots) ts) q.1 h.2 }
 
 -- ---- literals

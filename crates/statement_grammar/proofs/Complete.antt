@@ -269,7 +269,7 @@ row_rest g m fs seen (slot ∷ slots) (t ∷ ts) more h =
     ∙ row_rest g m fs (seen ++ t ∷ []) (h.0 ++ slots) ts more h.2
     ∙ ap (λ (l : List Token). run g m (Read (record { stack = fs; condition = true; x = m.row l })) more) (append_assoc seen (t ∷ []) ts)
 
-filled_is : (b : Bool) (more : List Slot) → filled_by b ≡ Some more → (b ≡ true) × (more ≡ [])
+pub filled_is : (b : Bool) (more : List Slot) → filled_by b ≡ Some more → (b ≡ true) × (more ≡ [])
 filled_is true more e = (refl, cc)
 filled_is false more e = cc
 

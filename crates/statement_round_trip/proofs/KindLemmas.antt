@@ -1,5 +1,6 @@
 -- What is written of an expression or a condition that fits has no fault.
 use Rattle.std.proofs.Common.{◌≡◌, ℕ, pos, negsuc, ◌+◌, max, Bool, true, false, [], Option, None, Some, refl, sym, ◌∙◌, ap, subst}
+use Rattle.std.proofs.lemmas.Bool.{false≢true}
 use Rattle.std.specs.Prelude.{◌&&◌, not, is_some}
 use Rattle.std.specs.List.{slice_get}
 use Rattle.std.specs.Option.{option_or, option_map_or}
@@ -62,9 +63,6 @@ never b n e = rw e refl
 no_text : (schema : Schema) (x : Part) → IsCalm schema is_text x → own_text schema x ≡ None
 no_text schema x i = never (is_text (sort_of schema x)) (begins_at x) i.sort
 
-false_true : false ≡ true → ⊥
-false_true e = cc
-
 -- ---- expressions
 
 pub record ExprRight (schema : Schema) (x : WrittenExpr) (high : ℕ) (number text reads : Bool) : Type 0 where
@@ -93,9 +91,9 @@ enclosed_kinds schema false tree = refl
 value_right : (schema : Schema) (value : Value) → literal_spells value ≡ true
     → ExprRight schema (record { is_leaf = true; from_zero = is_from_zero value; tree = value_tree value }) 1 (fit.value_is_number value) (fit.value_is_text value) (literal_reads value)
 value_right schema Null h = record { height_is = refl; known = refl; numbers = λ e. record { operand = refl; sort = refl }; texts = λ e. record { operand = refl; sort = refl }; read = refl }
-value_right schema (Int (pos n)) h = record { height_is = refl; known = refl; numbers = λ e. record { operand = refl; sort = refl }; texts = λ e. absurd (false_true e); read = h }
-value_right schema (Int (negsuc n)) h = record { height_is = refl; known = refl; numbers = λ e. record { operand = refl; sort = refl }; texts = λ e. absurd (false_true e); read = h }
-value_right schema (Text text) h = record { height_is = refl; known = refl; numbers = λ e. absurd (false_true e); texts = λ e. record { operand = refl; sort = refl }; read = refl }
+value_right schema (Int (pos n)) h = record { height_is = refl; known = refl; numbers = λ e. record { operand = refl; sort = refl }; texts = λ e. absurd (false≢true e); read = h }
+value_right schema (Int (negsuc n)) h = record { height_is = refl; known = refl; numbers = λ e. record { operand = refl; sort = refl }; texts = λ e. absurd (false≢true e); read = h }
+value_right schema (Text text) h = record { height_is = refl; known = refl; numbers = λ e. absurd (false≢true e); texts = λ e. record { operand = refl; sort = refl }; read = refl }
 
 number_column : (o : Option Column) → option_map_or (λ (found : Column). is_of_numbers found.kind) o false ≡ true → is_text (sort_of_column o) ≡ false
 number_column None e = cc
@@ -134,7 +132,7 @@ negated_right schema x high number text reads i = record {
   known = enclosed_known schema bare x.tree ∙ i.known;
   numbers = λ e. let calm = enclosed_calm schema is_text bare x.tree (i.numbers e) in
       record { operand = none_of (text_operand schema (whole (enclosed bare x.tree))) (own_text schema (whole (enclosed bare x.tree))) calm.operand (no_text schema (whole (enclosed bare x.tree)) calm); sort = refl };
-  texts = λ e. absurd (false_true e);
+  texts = λ e. absurd (false≢true e);
   read = i.read;
 }
   where
@@ -154,7 +152,7 @@ joined_right schema x y sign h k n m t u r s i j = record {
             (none_of (text_operand schema (whole (operand y))) (own_text schema (whole (operand y))) b.operand (no_text schema (whole (operand y)) b)));
         sort = refl;
       };
-  texts = λ e. absurd (false_true e);
+  texts = λ e. absurd (false≢true e);
   read = both_true r s i.read j.read;
 }
 

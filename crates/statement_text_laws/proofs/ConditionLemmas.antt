@@ -1,5 +1,5 @@
 -- What is written of a condition is it.
-use Rattle.std.proofs.Common.{◌≡◌, ℕ, pos, negsuc, ◌≤◌, Bool, true, false, List, [], ◌∷◌, ◌++◌, None, Some, refl, sym, ◌∙◌, ap, subst, arith}
+use Rattle.std.proofs.Common.{true≢false, ◌≡◌, ℕ, pos, negsuc, ◌≤◌, Bool, true, false, List, [], ◌∷◌, ◌++◌, None, Some, refl, sym, ◌∙◌, ap, subst, arith}
 use Rattle.std.specs.Prelude.{◌==◌, ◌&&◌, ◌||◌, not}
 use Rattle.std.proofs.lemmas.Bool.Decides.{nat_tests}
 use Rattle.row_types.specs.declared.values.Value.{Value}
@@ -163,14 +163,11 @@ right schema x condition i base n h = by_both x.is_and x.is_or refl refl
     by_both true o e f = (refl, refl, i.anywhere base 1 (omega arith))
     by_both false true e f = (refl, refl, i.anywhere base 1 (omega arith))
 
-true_false : true ≡ false → ⊥
-true_false e = cc
-
 and_read : (schema : Schema) (x y : WrittenCond) (one two : Cond) → CondIsRead schema x one → CondIsRead schema y two → CondIsRead schema (cond_written_at schema (c.And x y)) (roll-Cond (c.And one two))
 and_read schema x y one two i j = record {
   anywhere = λ base n h. (omega arith, omega arith, refl, left_and schema x one i base, right schema y two j base 3 (omega arith));
   under_and = λ o base n h. (h, omega arith, refl, left_and schema x one i base, right schema y two j base 3 (omega arith));
-  under_not = λ a o base n h. absurd (true_false a);
+  under_not = λ a o base n h. absurd (true≢false a);
   means = ap (λ (t : Term). OfCond (roll-Cond (c.And (cond_in t) (cond_in (made (terms schema) (on_the_right y)))))) (enclosed_means schema x.tree (OfCond one) (not x.is_or) i.means)
       ∙ ap (λ (t : Term). OfCond (roll-Cond (c.And one (cond_in t)))) (enclosed_means schema y.tree (OfCond two) (not (y.is_and || y.is_or)) j.means);
 }
@@ -178,8 +175,8 @@ and_read schema x y one two i j = record {
 or_read : (schema : Schema) (x y : WrittenCond) (one two : Cond) → CondIsRead schema x one → CondIsRead schema y two → CondIsRead schema (cond_written_at schema (c.Or x y)) (roll-Cond (c.Or one two))
 or_read schema x y one two i j = record {
   anywhere = λ base n h. (h, omega arith, refl, left_or schema x one i base, right schema y two j base 2 (omega arith));
-  under_and = λ o base n h. absurd (true_false o);
-  under_not = λ a o base n h. absurd (true_false o);
+  under_and = λ o base n h. absurd (true≢false o);
+  under_not = λ a o base n h. absurd (true≢false o);
   means = ap (λ (t : Term). OfCond (roll-Cond (c.Or (cond_in t) (cond_in (made (terms schema) (on_the_right y)))))) (enclosed_means schema x.tree (OfCond one) (not x.is_and) i.means)
       ∙ ap (λ (t : Term). OfCond (roll-Cond (c.Or one (cond_in t)))) (enclosed_means schema y.tree (OfCond two) (not (y.is_and || y.is_or)) j.means);
 }
