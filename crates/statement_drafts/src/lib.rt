@@ -8,3 +8,6 @@ mod tables;
 mod tokens;
 
 pub use drafts::{Draft, Form};
+pub use literal_faults::{assigned_fault, list_fault, literal_fault};
+pub use tables::{columns_of, schema_of, table_named};
+pub use tokens::form_by;
