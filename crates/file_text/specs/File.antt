@@ -1,6 +1,6 @@
 -- The text of a workload file, and its first fault.
 use Rattle.std.specs.Prelude.{◌≡◌, ◌⊎◌, ◌+◌, ◌==◌, ◌&&◌, ◌≤◌, ◌<◌, ⊤, ℕ, zero, suc, Bool, true, false, List, [], ◌∷◌, ◌++◌, map, length, codes, if◌then◌else◌}
-use Rattle.std.specs.Prelude.{bytes_eq}
+use Rattle.std.specs.Prelude.{bytes_eq, replicate}
 use Rattle.std.specs.List.{flat_map, onto_first}
 use Rattle.row_types.specs.declared.values.Value.{Value}
 use Rattle.row_types.specs.declared.table_schema.Schema.{Schema}
@@ -11,7 +11,7 @@ use Rattle.file_text.specs.declared.faults.LimitKind.TheVariants.{Bytes}
 use Rattle.file_text.specs.declared.faults.FileFault.{FileFault}
 use Rattle.file_text.specs.declared.faults.FileFault.TheVariants.{Line, Limit, Isolation as IsolationFault, Truncated, Memory}
 use Rattle.file_text.specs.Parts.{words_of}
-use Rattle.file_text.specs.Said.{Said, Skipped, RowOf, SessionOf, LocalOf, StepOf, Schedule, value_of, ScheduleWord}
+use Rattle.file_text.specs.Said.{Said, Skipped, RowOf, SessionOf, LocalOf, StepOf, Schedule, value_of, ScheduleWord, Once, Times}
 use Rattle.file_text.specs.Context.{schemas_of, replicas_of, is_ended}
 use Rattle.file_text.specs.Rules.{is_one_word}
 use Rattle.file_text.specs.Causes.{is_for, most, Cause, OfLimit, OfLine, OfIsolation, IsRefused, IsGood}
@@ -87,7 +87,12 @@ abbrev pub words_said : Said → List ScheduleWord
 words_said (Schedule words) = words
 words_said _ = []
 
--- in the program this is the workload
+-- an actor for several turns is so many turns of it
+abbrev pub played : ScheduleWord → List ScheduleWord
+played (Times turn count) = replicate count (Once turn)
+played word = word ∷ []
+
+-- what the file gives: tables by node, the source first, and scripts; the schedule is turn for turn
 pub record Contents : Type 0 where
   pub schemas : List Schema
   pub replicas : ℕ
@@ -105,7 +110,7 @@ contents_of said = record {
   copies = map (tables_of_node said) (nodes_from 1 (replicas_of said));
   sessions = sessions_from 1 said;
   locals = map (λ (replica : ℕ). locals_from replica 1 said) (nodes_from 1 (replicas_of said));
-  schedule = flat_map words_said said;
+  schedule = flat_map played (flat_map words_said said);
 }
 
 -- The bytes are a workload file with these contents: each line is good behind the ones before it, and

@@ -185,7 +185,7 @@ abbrev pub more_columns : List ColumnText → List Item
 more_columns [] = Sign 41 ∷ []
 more_columns (column ∷ columns) = Sign 44 ∷ (column_items column ++ more_columns columns)
 
--- one column, or several parted by commas, and the bracket
+-- one column, or several parted by commas, and the closing parenthesis
 abbrev pub columns_items : List ColumnText → List Item
 columns_items [] = []
 columns_items (column ∷ columns) = column_items column ++ more_columns columns

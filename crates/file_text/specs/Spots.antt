@@ -1,4 +1,4 @@
--- Which items may follow one another in a line: the reader's places.
+-- Which items may follow one another in a line: the places of a line, and what is due there.
 use Rattle.std.specs.Prelude.{Bool, true, false, List, [], ◌∷◌, Option, None, Some, if◌then◌else◌, ◌==◌}
 use Rattle.file_text.specs.Said.{Section, PtcLines, IsolationLines, ReplicaLines, TableLines, RowLines, SessionLines, LocalLines, ScheduleLines, EndLines, First, WorkloadWord, RepeatableWord, ReadWord, CommittedWord, UncommittedWord, SerializableWord, IntWord, BigIntWord, VarcharWord, KeyWord, NotWord, NullKeyword, Item, Word, Sign, Name, Version, Count, Length, NodeWord, SessionWord, LocalWord, Turns, Digits, Quote}
 
@@ -57,7 +57,7 @@ abbrev pub when : {A : Type 0} → Bool → A → Option A
 when true a = Some a
 when false a = None
 
--- a comma or the bracket behind a column
+-- a comma or the closing parenthesis behind a column
 abbrev pub ends_column : Column → Item → Option Spot
 ends_column column (Sign sign) = if sign == 44 then Some (ColumnDue (next_column column)) else when (sign == 41) NothingDue
 ends_column column _ = None
