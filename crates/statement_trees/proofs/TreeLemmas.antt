@@ -352,6 +352,11 @@ whole_closes schema base state s h r =
 not_both : (b : Bool) → b ≡ true → b ≡ false → ⊥
 not_both b e f = cc
 
+no_deep : (deep : Option ℕ) (b : Bool) (last : ℕ) → option_or deep (when_true b last) ≡ None → b ≡ false
+no_deep None true last e = cc
+no_deep None false last e = refl
+no_deep (Some n) b last e = cc
+
 pub ends : (schema : Schema) (base : Bool) (tree : OpenTree) (finished : Finished) → IsFinished schema base (state_of tree.state) finished → (ts : List Token) → IsStopped schema base ts tree → IsEnd schema base ts (end_of schema finished tree.last tree.deep)
 ends schema base tree (f.Whole x) d ts r =
     let closed : closed_state schema (state_image (operands schema) r.state) ≡ Some (record { stack = []; condition = base; x = x }) = r.alike.whole ∙ d in
@@ -378,6 +383,7 @@ ends schema base tree (f.Whole x) d ts r =
           is = i.1;
           spelled = i.2;
           made_so = ap (λ (h : m.Held Operand). h.x) (sym c.is);
+          low = λ n. lt_no 64 x.facts.height (no_deep tree.deep (nat_lt 64 x.facts.height) tree.last n);
           depth = depth_end schema base ts [] r.state tree.last tree.deep x.facts c.behind.x r.runs facts r.depth i.1 (i.2 ∙ sym (append-nil ts));
         }
 ends schema base tree (f.Open state) d ts r =

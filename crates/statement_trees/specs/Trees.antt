@@ -1,5 +1,5 @@
 -- What is read of an expression or a condition, in the words of the grammar.
-use Rattle.std.specs.Prelude.{◌≡◌, ◌⊎◌, ℕ, suc, nat_lt, Bool, true, false, List, [], ◌∷◌, ◌++◌, length, Option, Some, None, if◌then◌else◌}
+use Rattle.std.specs.Prelude.{◌≡◌, ◌≤◌, ◌⊎◌, ℕ, suc, nat_lt, Bool, true, false, List, [], ◌∷◌, ◌++◌, length, Option, Some, None, if◌then◌else◌}
 use Rattle.std.specs.Option.{option_or}
 use Rattle.row_types.specs.declared.table_schema.Schema.{Schema}
 use Rattle.statement_tokens.specs.declared.words.Token.{Token}
@@ -78,6 +78,7 @@ pub record IsWholeTree (schema : Schema) (base : Bool) (ts : List Token) (x : Op
   pub is : IsAt (tree_setting schema base) 1 base tree
   pub spelled : tokens_of tree ≡ ts
   pub made_so : x ≡ made (operands schema) tree
+  pub low : deep ≡ None → x.facts.height ≤ 64
   pub depth : places deep ≡ deep_in tree (length ts)
 
 -- the tokens are no tree; the facts are those of each tree that begins with them
