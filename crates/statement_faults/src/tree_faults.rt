@@ -8,7 +8,7 @@ ghost use Rattle.statement_grammar.specs.Faults.{column_or_0, deep_in, kind_faul
 ghost use Rattle.statement_grammar.specs.FirstFault.{first_of};
 ghost use Rattle.statement_reader.specs.Facts.{facts_of};
 ghost use Rattle.statement_reader.specs.Spots.{spot_of};
-ghost use Rattle.statement_faults.specs.TreeFaults.{breach_at, is_expression, kinds_by, merged};
+ghost use Rattle.statement_faults.specs.TreeFaults.{breach_at, first_by, is_expression, kinds_by, merged};
 
 use row_types::{RowFault, Schema};
 use statement_grammar::TextFault;
@@ -109,7 +109,8 @@ pub fn fault_of_tree(
     facts: Facts,
     deep: Option<u32>,
 ) -> Option<TextFault>
-    ensures { (draft : Draft) (s : Shape) (n : ℕ) → draft.column ≡ column → facts ≡ facts_of schema.now (cut true n s) → places deep ≡ deep_in s n → result ≡ first_of (tree_faults (Some schema.now) (spot_of spot) draft s n) }
+    ensures from_facts { result ≡ first_by (is_expression (spot_of spot)) schema.now column facts deep }
+    ensures first { (draft : Draft) (s : Shape) (n : ℕ) → draft.column ≡ column → facts ≡ facts_of schema.now (cut true n s) → places deep ≡ deep_in s n → result ≡ first_of (tree_faults (Some schema.now) (spot_of spot) draft s n) }
 {
     let common = first_fault(unknown_column(facts.unknown), too_deep(deep));
     let kinds = fault_of_kind(schema, spot, column, facts);

@@ -384,6 +384,7 @@ ends schema base tree (f.Whole x) d ts r =
           spelled = i.2;
           made_so = ap (λ (h : m.Held Operand). h.x) (sym c.is);
           low = λ n. lt_no 64 x.facts.height (no_deep tree.deep (nat_lt 64 x.facts.height) tree.last n);
+          facts = facts_end schema base ts [] r.state x.facts c.behind.x r.runs facts i.1 (i.2 ∙ sym (append-nil ts));
           depth = depth_end schema base ts [] r.state tree.last tree.deep x.facts c.behind.x r.runs facts r.depth i.1 (i.2 ∙ sym (append-nil ts));
         }
 ends schema base tree (f.Open state) d ts r =

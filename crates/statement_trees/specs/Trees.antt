@@ -79,6 +79,7 @@ pub record IsWholeTree (schema : Schema) (base : Bool) (ts : List Token) (x : Op
   pub spelled : tokens_of tree ≡ ts
   pub made_so : x ≡ made (operands schema) tree
   pub low : deep ≡ None → x.facts.height ≤ 64
+  pub facts : x.facts ≡ facts_of schema (cut true (length ts) tree)
   pub depth : places deep ≡ deep_in tree (length ts)
 
 -- the tokens are no tree; the facts are those of each tree that begins with them
