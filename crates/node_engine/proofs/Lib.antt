@@ -14,3 +14,6 @@ pub mod CommittedLemmas
 pub mod PublishedLemmas
 pub mod GainLemmas
 pub mod CycleLemmas
+pub mod DoneLemmas
+pub mod PutAllLemmas
+pub mod AskLemmas

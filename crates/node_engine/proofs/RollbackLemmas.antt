@@ -33,7 +33,7 @@ use Rattle.node_engine.proofs.TableLemmas.{get_set_same, get_set_other, table_wr
 use Rattle.node_engine.proofs.RoomLemmas.{IsFrame, frame_checks, frame_applied}
 use Rattle.node_engine.proofs.RemoveLemmas.{note_at, drop_here, removed_own, removed_other, removed_on, removed_off, removed_each, each_at, removed_rest, removed_within}
 
-written_at : (key_len : ℕ) (at key : List Value) (was : Option (List Value)) (rows : List (List Value)) → ((row : List Value) → was ≡ Some row → at ≡ take key_len row)
+pub written_at : (key_len : ℕ) (at key : List Value) (was : Option (List Value)) (rows : List (List Value)) → ((row : List Value) → was ≡ Some row → at ≡ take key_len row)
     → row_at key_len key (written key_len at was rows) ≡ cond (is_same_key key at) was (row_at key_len key rows)
 written_at key_len at key None rows keyed = gone (is_eq (key_cmp key at)) refl
   where

@@ -5,6 +5,8 @@ pub mod Kept
 pub mod Answers
 pub mod Dues
 pub mod Cycles
+pub mod PutAll
+pub mod NextStarts
 pub mod Undone
 pub mod Fresh
 pub mod KeptReads

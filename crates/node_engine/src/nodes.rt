@@ -4,17 +4,19 @@ ghost use Rattle.node_engine.specs.declared.publishing.MasterFault.TheVariants.{
 ghost use Rattle.history.specs.Replay.{fold, applied_of};
 ghost use Rattle.node_model.specs.Waits.{next_wait};
 ghost use Rattle.node_model.specs.Txns.{txn_of};
-ghost use Rattle.node_model.specs.Node.{NodeView, begun, ended};
+ghost use Rattle.node_model.specs.Node.{NodeView, begun, ended, committed_rows};
 ghost use Rattle.node_model.specs.Calls.{after_call, fresh_node, Visit as VisitCall, Start as StartCall, Commit as CommitCall, Publish as PublishCall};
 ghost use Rattle.std.specs.List.{AllByRecursion};
 ghost use Rattle.row_types.specs.Fit.{IsSchema, AreTables};
 ghost use Rattle.node_engine.specs.Answers.{IsUnderWay, IsIdle, IsLiveTable, walk_of, visit_answer, commit_answer};
 ghost use Rattle.ptc_statement.specs.Fits.{FitsSchemas};
 ghost use Rattle.node_engine.specs.ReadRows.{read_rows_of};
+ghost use Rattle.node_engine.specs.NextStarts.{next_started};
 
 use crate::commits::commit_parts;
+use crate::committed_rows::committed_in;
 use crate::makes::fresh_parts;
-use crate::next_starts::start_and_visit_parts;
+use crate::next_starts::{start_and_visit_parts, visit_and_start_parts};
 use crate::parts::Parts;
 use crate::publishing::{MasterFault, publish_parts};
 use crate::rollbacks::rollback_parts;
@@ -26,7 +28,7 @@ use lock_table::Owner;
 use node_model::Part;
 use ordered_table::Table;
 use ptc_statement::Statement;
-use row_types::{R, Row, Schemas, Tables};
+use row_types::{R, Row, Rows, Schemas, Tables};
 use statement_log::{Log, Origin};
 use std::alloc::Global;
 use std::marker::Model;
@@ -130,6 +132,15 @@ impl Node {
         live_in(&self.parts, number)
     }
 
+    /// The committed rows of a table, by ascending key: those that the history's replay leaves, whatever open
+    /// transactions have changed; none where there is no such table.
+    pub fn committed(&self, alloc: Global, number: u32) -> R<Rows>
+        ensures { IfOk result (λ rows. rows ≡ committed_rows self.now number) }
+    {
+        let rows = committed_in(alloc, &self.parts, number)?;
+        Ok(rows)
+    }
+
     /// Begins a transaction of an owner that has none; out of memory changes nothing.
     pub fn begin(&mut self, alloc: Global, owner: Owner, part: Part) -> R<()>
         requires { txn_of owner.0 self.old.txns ≡ None }
@@ -199,6 +210,19 @@ impl Node {
         ensures err { OnErr result (self.new ≡ self.old) }
     {
         let answer = visit_parts(alloc, owner, &mut self.parts)?;
+        Ok(answer)
+    }
+
+    /// The next visit of an owner's statement in progress and, where this is done with it, the start of a
+    /// further statement. The memory of both is taken first: out of memory changes nothing.
+    pub fn visit_and_start(&mut self, alloc: Global, owner: Owner, next: Statement) -> R<Visit>
+        requires under_way { IsUnderWay owner.0 self.old }
+        requires fits { FitsSchemas self.old.schemas next }
+        ensures answer { IfOk result (λ answer. answer ≡ visit_answer owner.0 self.old) }
+        ensures ok { OnOk result (self.new ≡ next_started (visit_answer owner.0 self.old) owner next (after_call (VisitCall owner) self.old)) }
+        ensures err { OnErr result (self.new ≡ self.old) }
+    {
+        let answer = visit_and_start_parts(alloc, owner, next, &mut self.parts)?;
         Ok(answer)
     }
 

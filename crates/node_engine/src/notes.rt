@@ -71,6 +71,14 @@ impl Notes {
         self.notes[index].owner
     }
 
+    /// The note of this number.
+    pub fn at(&self, index: usize) -> &Note
+        requires { index < length self.now.notes }
+        ensures { slice_get self.now.notes index ≡ Some result.now }
+    {
+        &self.notes[index]
+    }
+
     /// Takes the note of this number away.
     pub fn take(&mut self, index: usize) -> Note
         requires { index < length self.old.notes }
