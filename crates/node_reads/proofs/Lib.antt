@@ -5,3 +5,4 @@ pub mod StatementLemmas
 pub mod VisitReads
 pub mod OthersReads
 pub mod KeptReads
+pub mod ReadLawLemmas

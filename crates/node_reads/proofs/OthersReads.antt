@@ -130,7 +130,7 @@ with_sum_same schemas rows owner held tables others (ClearChecks of) sums fits a
 
 -- the statements that are done
 
-last_read_same : (schemas : List Schema) (rows : CommittedRows) (owner : ℕ) (held : List Holding) (tables others : TableRows) (done : List Statement) (read : List (List Value)) → AllByRecursion (FitsSchemas schemas) done
+pub last_read_same : (schemas : List Schema) (rows : CommittedRows) (owner : ℕ) (held : List Holding) (tables others : TableRows) (done : List Statement) (read : List (List Value)) → AllByRecursion (FitsSchemas schemas) done
     → AreAlike schemas owner held tables others → AreCovered schemas rows held owner done → last_read schemas done others read ≡ last_read schemas done tables read
 last_read_same schemas rows owner held tables others [] read fit alike covered = refl
 last_read_same schemas rows owner held tables others (statement ∷ done) read fit alike covered =
@@ -138,7 +138,7 @@ last_read_same schemas rows owner held tables others (statement ∷ done) read f
     (alike_after schemas owner held tables others statement fit.0 alike) covered.1
     ∙ ap (last_read schemas done (tables_after schemas statement tables)) (read_after_same schemas rows owner held tables others statement read fit.0 alike covered.0)
 
-sums_same : (schemas : List Schema) (rows : CommittedRows) (owner : ℕ) (held : List Holding) (tables others : TableRows) (done : List Statement) → AllByRecursion (FitsSchemas schemas) done
+pub sums_same : (schemas : List Schema) (rows : CommittedRows) (owner : ℕ) (held : List Holding) (tables others : TableRows) (done : List Statement) → AllByRecursion (FitsSchemas schemas) done
     → AreAlike schemas owner held tables others → AreCovered schemas rows held owner done → sums_of schemas done others ≡ sums_of schemas done tables
 sums_same schemas rows owner held tables others [] fit alike covered = refl
 sums_same schemas rows owner held tables others (statement ∷ done) fit alike covered =

@@ -3,3 +3,4 @@ pub mod Gains
 pub mod Readings
 pub mod ReadBy
 pub mod CheckChanges
+pub mod ReadLaws

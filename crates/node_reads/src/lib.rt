@@ -4,8 +4,10 @@
 
 mod check_changes;
 mod gains;
+mod read_laws;
 mod readings;
 
 pub use check_changes::set_checks;
 pub use gains::{Gain, gain_of};
+pub use read_laws::what_was_read_stays;
 pub use readings::{Reading, forget, grow_of, put_unread, read_in, reserve_of, unread};
