@@ -14,7 +14,7 @@ use Rattle.ptc_statement.specs.Effect.{effect, effect_within}
 use Rattle.ptc_statement.specs.Fits.{StatementFits}
 use Rattle.ptc_statement.proofs.KeyLemmas.{itself_alone}
 use Rattle.ptc_statement.proofs.KeepLemmas.{LeftKeeps, Keeps, effect_keeps}
-use Rattle.row_types.specs.KeyRows.{HasKey, row_at, put_row, without_key}
+use Rattle.row_types.specs.KeyRows.{HasKey, row_at, put_row}
 use Rattle.row_types.proofs.KeyRowLemmas.{found_at, same_key, put_there, put_elsewhere, removed_gone, removed_elsewhere}
 use Rattle.row_types.proofs.SchemaRowLemmas.{fitting_key}
 use Rattle.node_engine.specs.Written.{written}

@@ -2,11 +2,10 @@
 use Rattle.std.proofs.Common.{◌≡◌, ◌∙◌, ℕ, suc, ◌==◌, Bool, true, false, cond, List, [], ◌∷◌, ◌++◌, Option, None, Some, map, refl, ap, sym, append_assoc}
 use Rattle.std.specs.Prelude.{option_map}
 use Rattle.lock_table.specs.declared.wants.Owner.{Owner}
-use Rattle.ptc_statement.specs.Effect.{table_of}
 use Rattle.node_model.specs.declared.txns.Walk.{Walk}
 use Rattle.node_model.specs.declared.txns.Txn.{Txn}
-use Rattle.node_model.specs.Node.{NodeView, plan_of, plan_excluder, ended}
-use Rattle.node_model.specs.Waits.{next_wait, way_on, way_back, cycle_of, victim_of, after_wait, visited_unless}
+use Rattle.node_model.specs.Node.{NodeView, plan_of, ended}
+use Rattle.node_model.specs.Waits.{way_on, way_back, cycle_of, victim_of, after_wait, visited_unless}
 use Rattle.node_model.specs.Calls.{Visit, after_call, visit_if, visited_if}
 use Rattle.node_model.proofs.TxnLemmas.{txn_owner}
 use Rattle.node_engine.specs.declared.visits.Due.{Due}

@@ -3,12 +3,8 @@ use Rattle.std.proofs.Common.{◌≡◌, ◌∙◌, ℕ, Bool, true, false, cond
 use Rattle.std.specs.Prelude.{IfOk, OnOk, OnErr}
 use Rattle.std.specs.declared.result.Result.{Result}
 use Rattle.std.specs.declared.result.Result.TheVariants.{Ok, Err}
-use Rattle.std.specs.List.{slice_get}
 use Rattle.row_types.specs.declared.memory.Memory.{Memory}
-use Rattle.row_types.specs.declared.values.Value.{Value}
 use Rattle.row_types.specs.declared.table_schema.Schema.{Schema}
-use Rattle.row_types.specs.declared.edges.Edge.{Edge}
-use Rattle.ptc_statement.specs.declared.statements.Statement.{Statement}
 use Rattle.ptc_statement.specs.Effect.{table_of}
 use Rattle.ptc_statement.specs.Fits.{FitsSchemas}
 use Rattle.lock_table.specs.declared.wants.Owner.{Owner}
@@ -25,7 +21,7 @@ use Rattle.node_engine.specs.declared.parts.Parts.{Parts}
 use Rattle.node_engine.specs.declared.visits.Visit.{Visit}
 use Rattle.node_engine.specs.declared.visits.Visit.TheVariants.{Stepped, Done, Duplicate, Waits, Deadlock}
 use Rattle.node_engine.specs.Kept.{node_view}
-use Rattle.node_engine.specs.NextStarts.{next_walk, IsReady, CanBegin, with_next, next_started}
+use Rattle.node_engine.specs.NextStarts.{next_walk, IsReady, with_next, next_started}
 use Rattle.node_engine.specs.Answers.{IsUnderWay, IsIdle, owner_at, answer_wait, answer_of, duplicate_key, answer_by, answer_in, answer_if, visit_answer}
 
 -- a statement that ends, or is refused, is no longer in progress

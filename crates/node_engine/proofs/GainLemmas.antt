@@ -1,5 +1,5 @@
 -- What a visit reads: the live row at its key, which can be encoded.
-use Rattle.std.proofs.Common.{◌≡◌, ◌≢◌, ◌∙◌, ℕ, Bool, true, false, cond, List, [], ◌∷◌, Option, None, Some, refl, ap, sym, subst, ◌<◌, ◌^◌, length, arith}
+use Rattle.std.proofs.Common.{◌≡◌, ◌≢◌, ◌∙◌, ℕ, List, [], ◌∷◌, Option, None, Some, refl, ap, sym, subst, ◌<◌, ◌^◌, length, arith}
 use Rattle.std.specs.Prelude.{IfSome, IsSome, is_some}
 use Rattle.std.specs.List.{slice_get, AllByRecursion}
 use Rattle.row_types.specs.declared.values.Value.{Value}
@@ -9,7 +9,7 @@ use Rattle.row_types.specs.declared.table_schema.Schema.{Schema}
 use Rattle.row_types.specs.declared.table_schema.Column.{Column}
 use Rattle.row_types.specs.declared.table_schema.ColumnKind.{ColumnKind}
 use Rattle.row_types.specs.declared.table_schema.ColumnKind.TheVariants.{Int as IntColumn, BigInt, Text as TextColumn}
-use Rattle.row_types.specs.Fit.{IsSchema, RowFits, KindFits, TextFits, LengthFits, ValueFits, ValuesFit}
+use Rattle.row_types.specs.Fit.{KindFits, TextFits, LengthFits, ValueFits, ValuesFit}
 use Rattle.row_types.specs.Faults.{TextIsShort}
 use Rattle.row_types.specs.KeyRows.{row_at}
 use Rattle.ordered_table.specs.TableView.{TableView}
@@ -23,14 +23,13 @@ use Rattle.node_model.specs.declared.txns.Walk.{Walk}
 use Rattle.node_model.specs.declared.txns.Txn.{Txn}
 use Rattle.node_model.specs.Txns.{txn_of, with_txn, with_step, stepped_if}
 use Rattle.node_model.specs.Kept.{WalkFits}
-use Rattle.node_model.specs.Node.{NodeView, plan_of, plan_excluder, is_duplicate, moved}
+use Rattle.node_model.specs.Node.{plan_of, plan_excluder, is_duplicate}
 use Rattle.node_model.proofs.CallLemmas.{own_txn}
 use Rattle.node_reads.specs.declared.gains.Gain.{Gain}
 use Rattle.node_reads.specs.declared.readings.Reading.{Reading}
 use Rattle.node_reads.specs.Gains.{row_met, gain_of, CanBeAdded}
 use Rattle.node_reads.specs.Readings.{reading_of, HasGrown}
 use Rattle.node_reads.specs.ReadBy.{AllRead}
-use Rattle.node_reads.proofs.VisitReads.{Visiting, gain_at}
 use Rattle.node_reads.proofs.KeptReads.{own_at, visited_reads}
 use Rattle.node_engine.specs.declared.parts.Parts.{Parts}
 use Rattle.node_engine.specs.declared.visits.Due.{Due}
@@ -40,7 +39,6 @@ use Rattle.node_engine.specs.ReadDues.{row_under, HasGain}
 use Rattle.node_engine.specs.Dues.{IsDue}
 use Rattle.node_engine.specs.Answers.{IsUnderWay}
 use Rattle.node_engine.proofs.ChangeLemmas.{row_fits}
-use Rattle.node_engine.proofs.VisitedLemmas.{Visits}
 use Rattle.node_engine.proofs.SettleLemmas.{turn_of}
 
 -- a row that fits can be encoded

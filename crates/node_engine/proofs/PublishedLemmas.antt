@@ -1,12 +1,11 @@
 -- A node after a publication: its history has the entry, and its check row the checksum.
-use Rattle.std.proofs.Common.{◌≡◌, ◌∙◌, ℕ, ◌+◌, List, [], ◌∷◌, ◌++◌, Option, None, Some, length, refl, ap, sym, subst}
+use Rattle.std.proofs.Common.{◌≡◌, ◌∙◌, ℕ, List, [], ◌∷◌, ◌++◌, Option, Some, ap, sym, subst}
 use Rattle.std.specs.List.{slice_get, AllByRecursion}
 use Rattle.row_types.specs.declared.values.Value.{Value}
 use Rattle.row_types.specs.declared.digests.DigestKind.{DigestKind}
 use Rattle.row_types.specs.declared.digests.Digest.{Digest}
 use Rattle.row_types.specs.declared.table_schema.Schema.{Schema}
 use Rattle.row_types.specs.KeyRows.{TableRows}
-use Rattle.ptc_statement.specs.declared.statements.Statement.{Statement}
 use Rattle.ptc_statement.specs.declared.statements.Statement.TheVariants.{SetMaster}
 use Rattle.ordered_table.specs.TableView.{TableView}
 use Rattle.statement_log.specs.declared.entries.Entry.{Entry}
@@ -18,7 +17,7 @@ use Rattle.history.proofs.ReplayLemmas.{fold_more, applied_of-more}
 use Rattle.lock_table.specs.Locks.{exclusive_owner}
 use Rattle.node_model.specs.Kept.{IsKept}
 use Rattle.node_model.specs.Calls.{Publish, after_call, published}
-use Rattle.node_model.specs.Node.{NodeView, live_row, live_from, committed_row, with_entries}
+use Rattle.node_model.specs.Node.{NodeView, live_row, live_from}
 use Rattle.node_model.specs.PutBack.{LeadsBack, put_back}
 use Rattle.node_model.proofs.CallLemmas.{call_kept, published_row}
 use Rattle.node_model.specs.Txns.{txn_of}

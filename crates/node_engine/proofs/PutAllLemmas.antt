@@ -1,12 +1,11 @@
 -- Putting back all that is noted leads from the live rows to the committed ones.
-use Rattle.std.proofs.Common.{◌≡◌, ◌≢◌, ◌⊎◌, inl, inr, ◌∙◌, ℕ, zero, suc, ◌+◌, ◌≤◌, ◌==◌, ◌&&◌, Bool, true, false, cond, List, [], ◌∷◌, ◌++◌, Option, None, Some, length, take, refl, ap, sym, subst, arith}
+use Rattle.std.proofs.Common.{◌≡◌, ◌≢◌, ◌⊎◌, inl, inr, ◌∙◌, ℕ, zero, suc, ◌+◌, ◌==◌, ◌&&◌, Bool, true, false, cond, List, [], ◌∷◌, ◌++◌, Option, None, Some, length, take, refl, ap, sym, subst, arith}
 use Rattle.std.specs.Prelude.{IfSome, option_and_then}
 use Rattle.std.specs.List.{slice_get, AllByRecursion}
-use Rattle.std.specs.Ordering.{is_eq}
 use Rattle.row_types.specs.declared.values.Value.{Value}
 use Rattle.row_types.specs.declared.lock_modes.LockMode.TheVariants.{Exclusive}
 use Rattle.row_types.specs.declared.table_schema.Schema.{Schema}
-use Rattle.row_types.specs.Fit.{IsSchema, RowFits, AreTables, key_of}
+use Rattle.row_types.specs.Fit.{RowFits, AreTables, key_of}
 use Rattle.row_types.specs.KeyRows.{HasKey, AreOrdered, row_at}
 use Rattle.row_types.proofs.SameRowLemmas.{same_rows}
 use Rattle.row_types.proofs.SchemaRowLemmas.{fitting_key, table_ordered}
@@ -20,8 +19,8 @@ use Rattle.lock_table.proofs.GapLemmas.{both_true}
 use Rattle.lock_table.proofs.HoldLemmas.{same_or_apart, is_number, number_is, same_key_is, exclusive_found, exclusive_none}
 use Rattle.node_model.specs.Node.{NodeView, live_row, live_from, committed_row, committed_rows}
 use Rattle.node_model.specs.Kept.{FactsOf}
-use Rattle.node_model.specs.PutBack.{Noted, put_back, AreOwn, LeadsBack}
-use Rattle.node_model.proofs.CommitLemmas.{table_at, table_row}
+use Rattle.node_model.specs.PutBack.{Noted, put_back, AreOwn}
+use Rattle.node_model.proofs.CommitLemmas.{table_at}
 use Rattle.node_model.proofs.PutBackLemmas.{put_back_last}
 use Rattle.node_engine.specs.declared.notes.Note.{Note}
 use Rattle.node_engine.specs.declared.parts.Parts.{Parts}

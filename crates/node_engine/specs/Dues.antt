@@ -1,5 +1,5 @@
 -- What is due of a visit, and what doing it wants and gives.
-use Rattle.std.specs.Prelude.{ℕ, ◌≡◌, ◌≤◌, ◌<◌, ◌+◌, ◌++◌, cond, Bool, List, [], ◌∷◌, Option, None, Some, IfSome, IsSome, take, length, option_map, option_and_then, slice_set}
+use Rattle.std.specs.Prelude.{ℕ, ◌≡◌, ◌≤◌, ◌<◌, ◌+◌, ◌++◌, List, [], ◌∷◌, Option, None, Some, IfSome, IsSome, take, length, option_map, option_and_then, slice_set}
 use Rattle.std.specs.List.{slice_get}
 use Rattle.std.specs.Option.{option_map_or}
 use Rattle.row_types.specs.declared.values.Value.{Value}

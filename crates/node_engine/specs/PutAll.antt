@@ -1,5 +1,5 @@
 -- What putting back all that is noted gives.
-use Rattle.std.specs.Prelude.{ℕ, ◌≡◌, ◌≤◌, ◌+◌, List, [], ◌∷◌, length, take, IfSome}
+use Rattle.std.specs.Prelude.{ℕ, ◌≡◌, ◌≤◌, List, [], ◌∷◌, length, take, IfSome}
 use Rattle.row_types.specs.declared.values.Value.{Value}
 use Rattle.row_types.specs.KeyRows.{Rows, HasKey, AreOrdered, row_at}
 use Rattle.ordered_table.specs.TableView.{TableView}

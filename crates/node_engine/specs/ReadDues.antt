@@ -10,7 +10,7 @@ use Rattle.ptc_statement.specs.Effect.{table_of}
 use Rattle.node_model.specs.declared.txns.Walk.{Walk}
 use Rattle.node_model.specs.declared.txns.Txn.{Txn}
 use Rattle.node_model.specs.Txns.{txn_of}
-use Rattle.node_model.specs.Node.{NodeView, live_row}
+use Rattle.node_model.specs.Node.{NodeView}
 use Rattle.node_reads.specs.declared.gains.Gain.{Gain}
 use Rattle.node_reads.specs.declared.readings.Reading.{Reading}
 use Rattle.node_reads.specs.Gains.{gain_of, row_met}

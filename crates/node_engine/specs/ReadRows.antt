@@ -1,5 +1,5 @@
 -- The rows of an open transaction's last locking read.
-use Rattle.std.specs.Prelude.{ℕ, List, [], Option, None, Some}
+use Rattle.std.specs.Prelude.{ℕ, [], Option, None, Some}
 use Rattle.row_types.specs.KeyRows.{Rows}
 use Rattle.history.specs.Replay.{fold}
 use Rattle.node_model.specs.declared.txns.Txn.{Txn}

@@ -1,5 +1,5 @@
 -- What statements make of check rows is what their replay makes of them.
-use Rattle.std.proofs.Common.{◌≡◌, ◌∙◌, ℕ, Bool, true, false, not, cond, List, [], ◌∷◌, Option, None, Some, refl, ap, sym, subst}
+use Rattle.std.proofs.Common.{◌≡◌, ◌∙◌, ℕ, Bool, true, false, not, cond, List, [], ◌∷◌, Option, None, Some, refl, ap, sym}
 use Rattle.std.specs.List.{slice_get}
 use Rattle.std.specs.Option.{option_map_or}
 use Rattle.row_types.specs.declared.digests.Digest.{Digest}
@@ -11,9 +11,8 @@ use Rattle.ptc_statement.specs.declared.statements.Statement.{Statement}
 use Rattle.ptc_statement.specs.declared.statements.Statement.TheVariants.{Insert, Replace, Delete, Update, LockRead, Check, SetMaster, ClearChecks}
 use Rattle.row_digest.specs.Digest.{rows_in, digest_of, no_rows}
 use Rattle.checksum_table.specs.declared.check_rows.CheckEntry.{CheckEntry}
-use Rattle.checksum_table.specs.declared.check_rows.CheckRow.{CheckRow}
 use Rattle.checksum_table.specs.Checks.{with_check}
-use Rattle.history.specs.Replay.{Replayed, table_rows, chunk_rows, tables_after, after_statement, after_statements}
+use Rattle.history.specs.Replay.{table_rows, chunk_rows, tables_after, after_statements}
 use Rattle.node_model.specs.Node.{logged}
 use Rattle.node_model.proofs.CommitLemmas.{tables_left}
 use Rattle.node_reads.specs.Reads.{sum_read, sums_of}

@@ -1,14 +1,12 @@
 -- Each open transaction has its reading, through every call.
-use Rattle.std.proofs.Common.{◌≡◌, ◌≢◌, ◌⊎◌, inl, inr, ◌∙◌, ℕ, Bool, true, false, List, [], ◌∷◌, ◌++◌, Option, None, Some, refl, ap, sym, subst}
-use Rattle.std.specs.List.{slice_get, AllByRecursion}
-use Rattle.row_types.specs.declared.values.Value.{Value}
+use Rattle.std.proofs.Common.{◌≡◌, ◌≢◌, ◌⊎◌, inl, inr, ◌∙◌, ℕ, Bool, List, [], ◌∷◌, ◌++◌, Option, None, Some, refl, ap, sym, subst}
+use Rattle.std.specs.List.{slice_get}
 use Rattle.row_types.specs.declared.edges.Edge.{Edge}
 use Rattle.row_types.specs.declared.table_schema.Schema.{Schema}
 use Rattle.row_types.specs.Fit.{IsSchema}
 use Rattle.row_types.specs.KeyRows.{TableRows}
 use Rattle.ptc_statement.specs.declared.statements.Statement.{Statement}
 use Rattle.ptc_statement.specs.Effect.{table_of}
-use Rattle.ptc_statement.specs.Fits.{FitsSchemas}
 use Rattle.statement_log.specs.declared.origins.Origin.{Origin}
 use Rattle.history.specs.Replay.{fold}
 use Rattle.lock_table.specs.declared.wants.Owner.{Owner}
@@ -20,15 +18,13 @@ use Rattle.node_model.specs.Txns.{txn_of, with_txn, without_txn, with_current}
 use Rattle.node_model.specs.Kept.{IsKept}
 use Rattle.node_model.specs.Node.{NodeView, plan_of, moved, start_of, logged, written, committed, committed_row}
 use Rattle.node_model.specs.Calls.{Commit, after_call, committed_if, committed_idle}
-use Rattle.node_model.specs.LockFacts.{Guards}
 use Rattle.node_model.proofs.TxnLemmas.{txn_same, txn_other, txn_left, txn_gone, txn_owner}
 use Rattle.node_model.proofs.VisitLemmas.{moved_owner}
 use Rattle.node_model.proofs.LiveLemmas.{committed_tables}
 use Rattle.node_model.proofs.ReadLemmas.{guarded_stays}
 use Rattle.node_reads.specs.declared.gains.Gain.{Gain}
 use Rattle.node_reads.specs.declared.readings.Reading.{Reading}
-use Rattle.node_reads.specs.Gains.{row_met, gain_of}
-use Rattle.node_reads.specs.Readings.{reading_of, without_reading, IsUnread, IsSameReading, IsSameIn, AreSame, IsGrown, HasGrown}
+use Rattle.node_reads.specs.Readings.{reading_of, without_reading, IsUnread, IsSameIn, AreSame, IsGrown, HasGrown}
 use Rattle.node_reads.specs.ReadBy.{IsReading, IsReadBy, AllRead}
 use Rattle.node_reads.proofs.ReadingLemmas.{reading_left, reading_gone, reading_new, reading_apart}
 use Rattle.node_reads.proofs.VisitReads.{unread_is, same_is, started_is, withdrawn_is, Visiting, gain_at, visited_is}

@@ -1,8 +1,7 @@
 -- The rows that a walk meets: none where it begins, and more with each visit.
-use Rattle.std.proofs.Common.{◌≡◌, ◌⊎◌, inl, inr, ◌∙◌, ℕ, ◌&&◌, Bool, true, false, cond, List, [], ◌∷◌, ◌++◌, Option, None, Some, refl, ap, sym, subst}
-use Rattle.std.specs.Prelude.{filter}
+use Rattle.std.proofs.Common.{◌≡◌, ◌⊎◌, inl, inr, ◌∙◌, ℕ, Bool, true, false, cond, List, [], ◌∷◌, ◌++◌, Option, None, Some, refl, ap, sym}
 use Rattle.std.specs.List.{slice_get, AllByRecursion}
-use Rattle.std.specs.Option.{option_map_or, option_to_list}
+use Rattle.std.specs.Option.{option_to_list}
 use Rattle.std.specs.Ordering.{is_eq, is_le, ordering_then}
 use Rattle.std.specs.declared.cmp.Ordering.{Ordering}
 use Rattle.std.specs.declared.cmp.Ordering.TheVariants.{Less, Equal, Greater}
@@ -13,7 +12,7 @@ use Rattle.row_types.specs.declared.edges.Edge.{Edge}
 use Rattle.row_types.specs.declared.edges.Edge.TheVariants.{Before, After}
 use Rattle.row_types.specs.declared.edges.Span.{Span}
 use Rattle.row_types.specs.declared.table_schema.Schema.{Schema}
-use Rattle.row_types.specs.Order.{key_cmp, edge_cmp, edge_le, has, is_past_edge, is_before_edge}
+use Rattle.row_types.specs.Order.{edge_cmp, edge_le, has, is_past_edge, is_before_edge}
 use Rattle.row_types.specs.Fit.{key_of, IsSchema}
 use Rattle.row_types.specs.KeyRows.{TableRows}
 use Rattle.row_types.proofs.OrderLemmas.{key_ties}
@@ -23,9 +22,9 @@ use Rattle.ptc_statement.specs.Reach.{reach_of}
 use Rattle.ptc_statement.specs.Effect.{table_of}
 use Rattle.ptc_statement.specs.Fits.{FitsSchemas}
 use Rattle.row_digest.specs.Digest.{rows_in}
-use Rattle.history.specs.Replay.{Replayed, table_rows, tables_after, after_statement, after_statements, fold}
+use Rattle.history.specs.Replay.{Replayed, table_rows, after_statement, after_statements, fold}
 use Rattle.lock_table.specs.Stops.{least_key_past}
-use Rattle.lock_table.proofs.GapLemmas.{both_true, least_is}
+use Rattle.lock_table.proofs.GapLemmas.{both_true}
 use Rattle.txn_walk.specs.declared.plans.Plan.{Plan}
 use Rattle.txn_walk.specs.Plans.{no_visit, last_visit, stop_visit, visit_within, walk_visit}
 use Rattle.node_model.specs.Kept.{FactsOf, TablesOf}

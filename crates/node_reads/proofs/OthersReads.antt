@@ -1,18 +1,17 @@
 -- A reading stays what its transaction's statements read, whatever others commit.
-use Rattle.std.proofs.Common.{◌≡◌, ◌≢◌, ◌⊎◌, inl, inr, ◌∙◌, ℕ, ◌&&◌, ◌==◌, Bool, true, false, cond, List, [], ◌∷◌, ◌++◌, Option, None, Some, refl, ap, sym, subst}
+use Rattle.std.proofs.Common.{◌≡◌, inl, inr, ◌∙◌, ℕ, ◌&&◌, true, false, List, [], ◌∷◌, Option, None, Some, refl, ap, sym}
 use Rattle.std.specs.Prelude.{option_and_then}
 use Rattle.std.specs.List.{slice_get, AllByRecursion}
 use Rattle.std.specs.Option.{option_map_or}
 use Rattle.row_types.specs.declared.values.Value.{Value}
-use Rattle.row_types.specs.declared.lock_modes.LockMode.{LockMode}
-use Rattle.row_types.specs.declared.lock_modes.LockMode.TheVariants.{Shared, Exclusive}
+use Rattle.row_types.specs.declared.lock_modes.LockMode.TheVariants.{Shared}
 use Rattle.row_types.specs.declared.edges.Edge.{Edge}
 use Rattle.row_types.specs.declared.edges.Edge.TheVariants.{After}
 use Rattle.row_types.specs.declared.edges.Span.{Span}
 use Rattle.row_types.specs.declared.digests.Digest.{Digest}
 use Rattle.row_types.specs.declared.table_schema.Schema.{Schema}
-use Rattle.row_types.specs.Order.{edge_le, has, is_past_edge, is_before_edge}
-use Rattle.row_types.specs.Fit.{IsSchema, IsTable, AreTables}
+use Rattle.row_types.specs.Order.{has, is_past_edge, is_before_edge}
+use Rattle.row_types.specs.Fit.{IsSchema, AreTables}
 use Rattle.row_types.specs.KeyRows.{TableRows}
 use Rattle.row_types.proofs.SpanLemmas.{edge_le_trans}
 use Rattle.ptc_statement.specs.declared.statements.Statement.{Statement}
@@ -20,7 +19,6 @@ use Rattle.ptc_statement.specs.declared.statements.Statement.TheVariants.{Insert
 use Rattle.ptc_statement.specs.Reach.{reach_of}
 use Rattle.ptc_statement.specs.Effect.{table_of, row_at}
 use Rattle.ptc_statement.specs.Fits.{FitsSchemas}
-use Rattle.row_digest.specs.Digest.{rows_in, no_rows}
 use Rattle.history.specs.Replay.{table_rows, tables_after}
 use Rattle.lock_table.specs.declared.wants.Holding.{Holding}
 use Rattle.lock_table.proofs.GapLemmas.{both_true}
@@ -28,12 +26,12 @@ use Rattle.lock_table.proofs.HoldLemmas.{is_number}
 use Rattle.node_model.specs.declared.txns.Walk.{Walk}
 use Rattle.node_model.specs.declared.txns.Txn.{Txn}
 use Rattle.node_model.specs.Node.{act, reaches}
-use Rattle.node_model.specs.LockFacts.{CommittedRows, HoldsGapOver, Guards, IsGuarded, IsCovered, IsCoveredWhole, AreCovered, IsCoveredSoFar, TxnCovered, Walks}
+use Rattle.node_model.specs.LockFacts.{CommittedRows, Guards, IsCovered, IsCoveredWhole, AreCovered, IsCoveredSoFar, TxnCovered}
 use Rattle.node_model.proofs.CommitLemmas.{table_row, table_at, tables_kept, row_after}
 use Rattle.node_model.proofs.PlanLemmas.{not_both}
 use Rattle.node_model.proofs.RowsRead.{rows_same_in}
 use Rattle.node_reads.specs.declared.readings.Reading.{Reading}
-use Rattle.node_reads.specs.Reads.{rows_met, rows_taken, sum_made, rows_read, sum_read, tables_after_all, read_after, last_read, with_sum, sums_of}
+use Rattle.node_reads.specs.Reads.{rows_met, rows_taken, sum_made, tables_after_all, read_after, last_read, with_sum, sums_of}
 use Rattle.node_reads.specs.ReadBy.{Reads, IsOnWay, IsReadUpTo, IsReadSoFar, IsReading}
 use Rattle.node_reads.proofs.StatementLemmas.{rows_read_is, sum_read_is}
 

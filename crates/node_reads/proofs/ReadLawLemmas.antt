@@ -1,11 +1,8 @@
 -- What was read stays so.
 use Rattle.std.proofs.Common.{◌≡◌, ◌∙◌, ℕ, zero, suc, List, [], ◌∷◌, None, Some, refl, ap, sym, subst}
 use Rattle.std.specs.List.{slice_get, AllByRecursion}
-use Rattle.row_types.specs.declared.values.Value.{Value}
 use Rattle.row_types.specs.declared.table_schema.Schema.{Schema}
 use Rattle.row_types.specs.Fit.{IsSchema, AreTables}
-use Rattle.row_types.specs.KeyRows.{TableRows}
-use Rattle.history.specs.Replay.{fold}
 use Rattle.node_model.specs.declared.txns.Txn.{Txn}
 use Rattle.node_model.specs.Txns.{txn_of}
 use Rattle.node_model.specs.Kept.{IsKept}

@@ -1,12 +1,11 @@
 -- A reading stays what its transaction's statements read, through its own calls.
-use Rattle.std.proofs.Common.{◌≡◌, ◌⊎◌, inl, inr, ◌∙◌, ℕ, ◌&&◌, not, Bool, true, false, cond, List, [], ◌∷◌, ◌++◌, Option, None, Some, refl, ap, sym, subst}
-use Rattle.std.specs.Prelude.{filter}
+use Rattle.std.proofs.Common.{◌≡◌, inl, ◌∙◌, ℕ, ◌&&◌, not, Bool, true, false, cond, List, [], ◌∷◌, ◌++◌, Option, None, Some, refl, ap, sym, subst}
 use Rattle.std.specs.List.{slice_get, AllByRecursion}
 use Rattle.std.specs.Option.{option_map_or, option_to_list}
 use Rattle.std.proofs.lemmas.List.{append-nil}
 use Rattle.row_types.specs.declared.values.Value.{Value}
 use Rattle.row_types.specs.declared.lock_modes.LockMode.{LockMode}
-use Rattle.row_types.specs.declared.lock_modes.LockMode.TheVariants.{Shared, Exclusive}
+use Rattle.row_types.specs.declared.lock_modes.LockMode.TheVariants.{Shared}
 use Rattle.row_types.specs.declared.edges.Edge.{Edge}
 use Rattle.row_types.specs.declared.edges.Edge.TheVariants.{Low}
 use Rattle.row_types.specs.declared.edges.Span.{Span}
@@ -22,10 +21,9 @@ use Rattle.ptc_statement.specs.declared.statements.Statement.TheVariants.{Insert
 use Rattle.ptc_statement.specs.Reach.{reach_of}
 use Rattle.ptc_statement.specs.Effect.{table_of}
 use Rattle.ptc_statement.specs.Fits.{FitsSchemas}
-use Rattle.row_digest.specs.Digest.{rows_in, digest_of, no_rows}
-use Rattle.history.specs.Replay.{table_rows, tables_after, fold}
+use Rattle.row_digest.specs.Digest.{no_rows}
+use Rattle.history.specs.Replay.{table_rows, fold}
 use Rattle.lock_table.specs.declared.wants.Owner.{Owner}
-use Rattle.txn_walk.specs.declared.plans.Plan.{Plan}
 use Rattle.txn_walk.specs.Plans.{next_visit}
 use Rattle.node_model.specs.Kept.{FactsOf, TablesOf}
 use Rattle.node_model.specs.declared.parts.Part.{Part}
@@ -33,16 +31,16 @@ use Rattle.node_model.specs.declared.parts.Part.TheVariants.{Client, Apply}
 use Rattle.node_model.specs.declared.txns.Walk.{Walk}
 use Rattle.node_model.specs.declared.txns.Txn.{Txn}
 use Rattle.node_model.specs.Txns.{txn_of}
-use Rattle.node_model.specs.Node.{NodeView, live_row, is_live, stops, plan_of, empty_plan, plan_excluder, is_client, is_duplicate, moved, start_of}
+use Rattle.node_model.specs.Node.{NodeView, is_live, stops, plan_of, empty_plan, plan_excluder, is_client, is_duplicate, moved, start_of}
 use Rattle.node_reads.specs.declared.gains.Gain.{Gain}
 use Rattle.node_reads.specs.declared.gains.Gain.TheVariants.{Nothing, Row, Sum}
 use Rattle.node_reads.specs.declared.readings.Reading.{Reading}
 use Rattle.node_reads.specs.Gains.{row_met, gain_of, taken_at, sum_with}
-use Rattle.node_reads.specs.Readings.{IsUnread, IsSameReading, IsGrown, rows_grown, taken_grown, sum_grown, sums_grown}
-use Rattle.node_reads.specs.Reads.{rows_met, rows_taken, sum_made, rows_read, sum_read, tables_after_all, read_after, last_read, with_sum, sums_of}
+use Rattle.node_reads.specs.Readings.{IsUnread, IsSameReading, IsGrown}
+use Rattle.node_reads.specs.Reads.{rows_met, rows_taken, sum_made, tables_after_all, read_after, last_read, with_sum, sums_of}
 use Rattle.node_reads.specs.ReadBy.{Reads, IsOnWay, IsReadUpTo, IsReadSoFar, IsReading}
-use Rattle.node_reads.proofs.MetLemmas.{none_between, not_above, Meets, Walking, seen_tables, visit_meets}
-use Rattle.node_reads.proofs.StatementLemmas.{tables_more, last_read_more, sums_more, taken_more, sum_more, rows_read_is, sum_read_is}
+use Rattle.node_reads.proofs.MetLemmas.{none_between, not_above, Walking, seen_tables, visit_meets}
+use Rattle.node_reads.proofs.StatementLemmas.{last_read_more, sums_more, taken_more, sum_more, rows_read_is, sum_read_is}
 
 -- a transaction that begins has read nothing
 pub unread_is : (schemas : List Schema) (tables : TableRows) (owner : Owner) (part : Part) (reading : Reading) → IsUnread owner reading

@@ -1,5 +1,5 @@
 -- What a visit adds to what its statement has read.
-use Rattle.std.specs.Prelude.{ℕ, Bool, cond, List, Option, None, Some, IfSome}
+use Rattle.std.specs.Prelude.{ℕ, cond, List, Option, None, Some, IfSome}
 use Rattle.row_types.specs.declared.values.Value.{Value}
 use Rattle.row_types.specs.declared.lock_modes.LockMode.{LockMode}
 use Rattle.row_types.specs.declared.digests.Digest.{Digest}

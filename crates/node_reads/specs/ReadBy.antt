@@ -1,5 +1,5 @@
 -- A reading is what its transaction's statements read.
-use Rattle.std.specs.Prelude.{ℕ, ◌≡◌, ◌⊎◌, true, List, [], ◌∷◌, Option, None, Some}
+use Rattle.std.specs.Prelude.{ℕ, ◌≡◌, ◌⊎◌, true, List, [], Option, None, Some}
 use Rattle.std.specs.List.{slice_get}
 use Rattle.row_types.specs.declared.edges.Edge.{Edge}
 use Rattle.row_types.specs.declared.edges.Span.{Span}

@@ -1,10 +1,8 @@
 -- What statements read: the rows that a locking read takes, the checksum that a CHECKSUM makes.
-use Rattle.std.specs.Prelude.{ℕ, List, [], ◌∷◌, Option, None, Some, filter}
+use Rattle.std.specs.Prelude.{List, [], ◌∷◌, filter}
 use Rattle.std.specs.List.{slice_get}
 use Rattle.std.specs.Option.{option_map_or}
-use Rattle.row_types.specs.declared.values.Value.{Value}
 use Rattle.row_types.specs.declared.edges.Edge.{Edge}
-use Rattle.row_types.specs.declared.edges.Span.{Span}
 use Rattle.row_types.specs.declared.digests.Digest.{Digest}
 use Rattle.row_types.specs.declared.table_schema.Schema.{Schema}
 use Rattle.row_types.specs.KeyRows.{Rows, TableRows}

@@ -1,8 +1,6 @@
-use Rattle.std.proofs.Common.{refl}
 use Rattle.history.specs.Replay.{fold}
 use Rattle.node_reads.proofs.KeptReads.{same_reads}
 use Rattle.node_engine.proofs.GainLemmas.{reading_there}
-use Rattle.node_engine.proofs.StartLemmas.{same_kept}
 use Rattle.node_engine.proofs.visits.make_read_room.Goals as goal
 
 pub reserve_of-requires : goal.reserve_of-requires
