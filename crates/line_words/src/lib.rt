@@ -1,0 +1,8 @@
+//! The words of a line of the workload file: numbers, actors, items of a schedule, nodes.
+#![tactic(auto)]
+
+mod actors;
+mod numbers;
+
+pub use actors::{ActorWord, actor_of};
+pub use numbers::{cut_decimal, decimal_of, digits_of, led_number};
