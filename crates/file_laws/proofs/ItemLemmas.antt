@@ -10,7 +10,7 @@ use Rattle.std.specs.Prelude.{nat_lt}
 use Rattle.statement_tokens.specs.Spellings.{IsNumberText, doubled}
 use Rattle.file_text.specs.Said.{spelling, Section, PtcLines, IsolationLines, ReplicaLines, TableLines, RowLines, SessionLines, LocalLines, ScheduleLines, EndLines, First, WorkloadWord, RepeatableWord, ReadWord, CommittedWord, UncommittedWord, SerializableWord, IntWord, BigIntWord, VarcharWord, KeyWord, NotWord, NullKeyword, Item, Word, Sign, Name, Version, Count, Length, NodeWord, SessionWord, LocalWord, Turns, Digits, Quote, IsItem}
 use Rattle.file_text.specs.Spots.{FirstColumn, SecondColumn, FurtherColumn, Spot, SectionDue, WorkloadDue, VersionDue, LevelDue, ReadDue, CommittedDue, CountDue, TableDue, ColumnsDue, ColumnDue, KindDue, LengthOpens, LengthDue, LengthCloses, MarkDue, NullDue, CommaDue, NodeDue, RowTableDue, RowOpens, LiteralDue, DigitsDue, LiteralEnds, SessionDue, LocalDue, TurnsDue, NothingDue, when, opens_section, moved}
-use Rattle.file_laws.proofs.WordLemmas.{digit_bounds, digits_once, decimal_once, led_once, local_once, word_once, node_once}
+use Rattle.file_text.proofs.WordLemmas.{digit_bounds, digits_once, decimal_once, led_once, local_once, word_once, node_once}
 
 heads : (a b : ℕ) (xs ys : List ℕ) → a ∷ xs ≡ b ∷ ys → a ≡ b
 heads a b xs ys e = cc

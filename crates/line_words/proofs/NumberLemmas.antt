@@ -67,9 +67,11 @@ canonical_parts size zero_first e = by_none (size == 0) refl
   where
     no : (b : Bool) → b ≡ true → b ≡ false → ⊥
     no b p q = cc
+
     by_one : (size == 0) ≡ false → (is : Bool) → (size == 1) ≡ is → ((size == 0) ≡ false) × (zero_first ≡ true → size ≡ 1)
     by_one n true o = (n, λ z. grind (arith, nat_tests, o))
     by_one n false o = (n, λ z. absurd (no (not (size == 0) && (size == 1 || not zero_first)) e (rw (n, o, z) refl)))
+
     by_none : (is : Bool) → (size == 0) ≡ is → ((size == 0) ≡ false) × (zero_first ≡ true → size ≡ 1)
     by_none true n = absurd (no (not (size == 0) && (size == 1 || not zero_first)) e (rw n refl))
     by_none false n = by_one n (size == 1) refl
@@ -118,6 +120,7 @@ no_decimal_cut text rest is canonical front other n are stops d =
   where
     no : (b : Bool) → b ≡ true → b ≡ false → ⊥
     no b p q = cc
+
     not_none : (xs : List ℕ) → xs ≢ [] → (length xs == 0) ≡ false
     not_none [] some = absurd (some refl)
     not_none (x ∷ xs) some = grind (arith, nat_tests)

@@ -59,7 +59,11 @@ fn session_behind(more: &[u8]) -> Option<ActorWord>
 fn tool_behind(more: &[u8]) -> Option<ActorWord>
     ensures { MatchOption result (NoActor (99 ∷ more.now)) (λ found. IsActorWord (99 ∷ more.now) found) }
 {
-    if more.len() == 0 { Some(ActorWord::Tool) } else { None }
+    if more.len() == 0 {
+        Some(ActorWord::Tool)
+    } else {
+        None
+    }
 }
 
 #[tactic(auto, using(crate::proofs::ActorLemmas::is_sync, crate::proofs::ActorLemmas::no_sync))]

@@ -65,9 +65,7 @@ pub fn decimal_of(text: &[u8]) -> Option<u128>
 {
     match cut_decimal(text) {
         None => None,
-        Some((number, rest)) => {
-            if rest.len() == 0 { Some(number) } else { None }
-        }
+        Some((number, rest)) => { if rest.len() == 0 { Some(number) } else { None } }
     }
 }
 
@@ -93,6 +91,12 @@ pub fn led_number(letter: u8, text: &[u8]) -> Option<u128>
 {
     match text.split_first() {
         None => None,
-        Some((byte, more)) => { if *byte == letter { decimal_of(more) } else { None } }
+        Some((byte, more)) => {
+            if *byte == letter {
+                decimal_of(more)
+            } else {
+                None
+            }
+        }
     }
 }

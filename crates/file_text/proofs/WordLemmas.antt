@@ -47,7 +47,7 @@ digits_free : (stop : ℕ) → stop < 48 → (text : List ℕ) → AllDigits tex
 digits_free stop low [] h = tt
 digits_free stop low (b ∷ bs) h = let d = digit_bounds b h.0 in ((λ e. omega arith), digits_free stop low bs h.1)
 
-decimal_free : (stop n : ℕ) (text : List ℕ) → stop < 48 → IsDecimal n text → IsFreeOf stop text
+pub decimal_free : (stop n : ℕ) (text : List ℕ) → stop < 48 → IsDecimal n text → IsFreeOf stop text
 decimal_free stop n text low d = digits_free stop low text d.digits.digits
 
 pub digits_once : (m n : ℕ) (text : List ℕ) → IsNumberText m text → IsNumberText n text → m ≡ n
@@ -147,7 +147,7 @@ letter_free (OfWorker n) e = omega arith
 letter_free (OfFurtherWorker n w) e = omega arith
 letter_free (OfLocal n w) e = omega arith
 
-turn_free : (turn : Turn) (text : List ℕ) → IsTurn turn text → IsFreeOf 42 text
+pub turn_free : (turn : Turn) (text : List ℕ) → IsTurn turn text → IsFreeOf 42 text
 turn_free turn text h = let a = starts turn text h in subst (IsFreeOf 42) (sym a.is) (letter_free turn, a.free)
 
 pub turn_once : (s t : Turn) (text : List ℕ) → IsTurn s text → IsTurn t text → s ≡ t
