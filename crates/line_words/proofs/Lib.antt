@@ -1,3 +1,4 @@
 pub mod NumberLemmas
 pub mod ActorLemmas
 pub mod ItemLemmas
+pub mod NameLemmas

@@ -1,3 +1,4 @@
 pub mod Numbers
 pub mod Actors
 pub mod Items
+pub mod Names
