@@ -11,7 +11,8 @@ use Rattle.file_text.specs.declared.faults.LineCause.TheVariants.{AfterEnd, Orde
 use Rattle.file_text.specs.declared.faults.FileFault.{FileFault}
 use Rattle.file_text.specs.declared.faults.FileFault.TheVariants.{Line, Limit, Isolation as IsolationFault, Truncated, Memory}
 use Rattle.file_text.specs.Parts.{Part, words_of, trimmed, past_end, place_of}
-use Rattle.file_text.specs.Said.{value_of, Said, Skipped, Header, Isolation, Replicas, TableOf, RowOf, SessionOf, LocalOf, StepOf, Schedule, End, Literal, Section, section_of, ScheduleWord}
+use Rattle.file_text.specs.declared.places.Section.{Section}
+use Rattle.file_text.specs.Said.{value_of, Said, Skipped, Header, Isolation, Replicas, TableOf, RowOf, SessionOf, LocalOf, StepOf, Schedule, End, Literal, section_of, ScheduleWord}
 use Rattle.file_text.specs.Context.{schemas_of, is_ended}
 use Rattle.file_text.specs.Rules.{named_first, parts_in, Misfit, FitsUpTo, offset_of, next_place, next_text}
 use Rattle.file_text.specs.Causes.{most, AllDeclared, UndeclaredWord, Undeclared, Cause, OfLimit, OfLine, OfIsolation, MisfitAt, FirstMisfits, IsRowThat, RowMisfits, IsUndeclared, Breaks, limit_order, cause_order, order, IsRefused, IsGood}

@@ -1,9 +1,12 @@
 -- The first part that does not fit is one, and a whole line has none.
 use Rattle.std.proofs.Common.{◌≡◌, ◌⊎◌, List, [], ◌∷◌, ◌++◌, Option, Some, None, refl, sym, ap, subst, ◌∙◌, append_assoc, append-nil, inl, inr}
 use Rattle.file_text.specs.Parts.{Part}
-use Rattle.file_text.specs.Said.{Said, Section, Item, IsItem, IsLineOf, Spells}
+use Rattle.file_text.specs.declared.places.Section.{Section}
+use Rattle.file_text.specs.Said.{Said, Item, IsItem, IsLineOf, Spells}
 use Rattle.file_text.specs.Rules.{Digit, misplaced, InRange, MayBegin, Begins, Misfit, Missing, Unfit, Misplaced, Misses, FitsUpTo}
-use Rattle.file_text.specs.Spots.{Spot, SectionDue, moved, bound, walked}
+use Rattle.file_text.specs.declared.places.Spot.{Spot}
+use Rattle.file_text.specs.declared.places.Spot.TheVariants.{SectionDue}
+use Rattle.file_text.specs.Spots.{moved, bound, walked}
 use Rattle.file_laws.specs.Laws.{SameMisfit}
 use Rattle.file_laws.proofs.WalkLemmas.{complete}
 use Rattle.file_laws.proofs.ItemLemmas.{one_item}

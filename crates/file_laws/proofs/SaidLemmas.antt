@@ -5,7 +5,9 @@ use Rattle.row_types.specs.declared.table_schema.ColumnKind.TheVariants.{Int as 
 use Rattle.ptc_statement.specs.declared.scripts.ScriptStep.{ScriptStep}
 use Rattle.ptc_statement.specs.declared.scripts.ScriptStep.TheVariants.{Begin, Commit, Rollback, Run}
 use Rattle.file_text.specs.Parts.{words_of, trimmed}
-use Rattle.file_text.specs.Said.{Said, Skipped, Header, Isolation, Replicas, TableOf, RowOf, SessionOf, LocalOf, StepOf, Schedule, End, Mark, Bare, Key, NotNull, ColumnText, Literal, Number, Quoted, NullWord, Level, RepeatableRead, ReadCommitted, ReadUncommitted, Serializable, Section, section_of, First, ScheduleWord, Item, Word, Sign, Name, Turns, kind_items, mark_items, column_items, more_columns, columns_items, literal_items, more_literals, literals_items, level_items, behind_first, IsLineOf}
+use Rattle.file_text.specs.declared.places.Section.{Section}
+use Rattle.file_text.specs.declared.places.Keyword.TheVariants.{First}
+use Rattle.file_text.specs.Said.{Said, Skipped, Header, Isolation, Replicas, TableOf, RowOf, SessionOf, LocalOf, StepOf, Schedule, End, Mark, Bare, Key, NotNull, ColumnText, Literal, Number, Quoted, NullWord, Level, RepeatableRead, ReadCommitted, ReadUncommitted, Serializable, section_of, ScheduleWord, Item, Word, Sign, Name, Turns, kind_items, mark_items, column_items, more_columns, columns_items, literal_items, more_literals, literals_items, level_items, behind_first, IsLineOf}
 use Rattle.file_text.specs.Context.{schemas_of, in_script}
 use Rattle.file_text.specs.Rules.{is_skipped, named_first, Opens, OpensNone, parts_in, MayBegin, word_step, IsStep, IsWritten, Says}
 use Rattle.statement_text_laws.proofs.OneTextLemmas.{one_statement_of_text}

@@ -7,30 +7,37 @@ use Rattle.std.proofs.lemmas.Bool.Decides.{nat_tests}
 use Rattle.std.proofs.Common.{arith}
 use Rattle.row_types.specs.declared.table_schema.ColumnKind.{ColumnKind}
 use Rattle.row_types.specs.declared.table_schema.ColumnKind.TheVariants.{Int as IntColumn, BigInt, Text as TextColumn}
-use Rattle.file_text.specs.Said.{Said, Header, Isolation, Replicas, TableOf, RowOf, SessionOf, LocalOf, Schedule, End, Mark, Bare, Key, NotNull, ColumnText, Literal, Number, Quoted, NullWord, Level, RepeatableRead, ReadCommitted, ReadUncommitted, Serializable, Section, PtcLines, IsolationLines, ReplicaLines, TableLines, RowLines, SessionLines, LocalLines, ScheduleLines, EndLines, section_of, First, WorkloadWord, RepeatableWord, ReadWord, CommittedWord, UncommittedWord, SerializableWord, IntWord, BigIntWord, VarcharWord, KeyWord, NotWord, NullKeyword, ScheduleWord, Node, All, Item, Word, Sign, Name, Version, Count, Length, NodeWord, SessionWord, LocalWord, Turns, Digits, Quote, kind_items, mark_items, column_items, more_columns, columns_items, literal_items, more_literals, literals_items, level_items, behind_first, HasNoKey, KeysFirst, HasForm, IsLineOf, HasLiteral}
-use Rattle.file_text.specs.Spots.{Column, FirstColumn, SecondColumn, FurtherColumn, Spot, SectionDue, WorkloadDue, VersionDue, LevelDue, ReadDue, CommittedDue, CountDue, TableDue, ColumnsDue, ColumnDue, KindDue, LengthOpens, LengthDue, LengthCloses, MarkDue, NullDue, CommaDue, NodeDue, RowTableDue, RowOpens, LiteralDue, DigitsDue, LiteralEnds, SessionDue, LocalDue, TurnsDue, NothingDue, first_spot, next_column, when, ends_column, marked, moved, bound, walked, may_end}
+use Rattle.file_text.specs.declared.places.Section.{Section}
+use Rattle.file_text.specs.declared.places.Section.TheVariants.{PtcLines, IsolationLines, ReplicaLines, TableLines, RowLines, SessionLines, LocalLines, ScheduleLines, EndLines}
+use Rattle.file_text.specs.declared.places.Keyword.TheVariants.{First, WorkloadWord, RepeatableWord, ReadWord, CommittedWord, UncommittedWord, SerializableWord, IntWord, BigIntWord, VarcharWord, KeyWord, NotWord, NullKeyword}
+use Rattle.file_text.specs.Said.{Said, Header, Isolation, Replicas, TableOf, RowOf, SessionOf, LocalOf, Schedule, End, Mark, Bare, Key, NotNull, ColumnText, Literal, Number, Quoted, NullWord, Level, RepeatableRead, ReadCommitted, ReadUncommitted, Serializable, section_of, ScheduleWord, Node, All, Item, Word, Sign, Name, Version, Count, Length, NodeWord, SessionWord, LocalWord, Turns, Digits, Quote, kind_items, mark_items, column_items, more_columns, columns_items, literal_items, more_literals, literals_items, level_items, behind_first, HasNoKey, KeysFirst, HasForm, IsLineOf, HasLiteral}
+use Rattle.file_text.specs.declared.places.ColumnSpot.{ColumnSpot}
+use Rattle.file_text.specs.declared.places.ColumnSpot.TheVariants.{FirstColumn, SecondColumn, FurtherColumn}
+use Rattle.file_text.specs.declared.places.Spot.{Spot}
+use Rattle.file_text.specs.declared.places.Spot.TheVariants.{SectionDue, WorkloadDue, VersionDue, LevelDue, ReadDue, CommittedDue, CountDue, TableDue, ColumnsDue, ColumnDue, KindDue, LengthOpens, LengthDue, LengthCloses, MarkDue, NullDue, CommaDue, NodeDue, RowTableDue, RowOpens, LiteralDue, DigitsDue, LiteralEnds, SessionDue, LocalDue, TurnsDue, NothingDue}
+use Rattle.file_text.specs.Spots.{first_spot, next_column, when, ends_column, marked, moved, bound, walked, may_end}
 use Rattle.file_text.specs.Rules.{MayBegin}
 use Rattle.file_laws.specs.Laws.{WalksThrough}
 use Rattle.file_laws.proofs.WalkLemmas.{TakesMark}
 
 -- columns from this one on, each with a mark that it may have
-abbrev pub Marked : Column → List ColumnText → Type 0
+abbrev pub Marked : ColumnSpot → List ColumnText → Type 0
 Marked column [] = ⊤
 Marked column (c ∷ columns) = TakesMark column c.mark × Marked (next_column column) columns
 
-record MoreColumns (column : Column) (items : List Item) : Type 0 where
+record MoreColumns (column : ColumnSpot) (items : List Item) : Type 0 where
   columns : List ColumnText
   are : items ≡ more_columns columns
   marked : Marked (next_column column) columns
 
-record FromMark (column : Column) (items : List Item) : Type 0 where
+record FromMark (column : ColumnSpot) (items : List Item) : Type 0 where
   mark : Mark
   takes : TakesMark column mark
   columns : List ColumnText
   are : items ≡ mark_items mark ++ more_columns columns
   marked : Marked (next_column column) columns
 
-record FromKind (column : Column) (items : List Item) : Type 0 where
+record FromKind (column : ColumnSpot) (items : List Item) : Type 0 where
   kind : ColumnKind
   mark : Mark
   takes : TakesMark column mark
@@ -38,13 +45,13 @@ record FromKind (column : Column) (items : List Item) : Type 0 where
   are : items ≡ kind_items kind ++ (mark_items mark ++ more_columns columns)
   marked : Marked (next_column column) columns
 
-record FromName (column : Column) (items : List Item) : Type 0 where
+record FromName (column : ColumnSpot) (items : List Item) : Type 0 where
   first : ColumnText
   columns : List ColumnText
   are : items ≡ column_items first ++ more_columns columns
   marked : Marked column (first ∷ columns)
 
-record FromLength (column : Column) (items : List Item) (front : List Item → List Item) : Type 0 where
+record FromLength (column : ColumnSpot) (items : List Item) (front : List Item → List Item) : Type 0 where
   mark : Mark
   takes : TakesMark column mark
   columns : List ColumnText
@@ -107,11 +114,11 @@ bound_some None f z e = cc
 bound_some (Some s) f z e = (s, refl, e)
 
 -- behind a column comes a comma and a column, or the bracket and nothing
-data Ends (column : Column) (item : Item) (spot : Spot) : Type 0 where
+data Ends (column : ColumnSpot) (item : Item) (spot : Spot) : Type 0 where
   Comma : item ≡ Sign 44 → spot ≡ ColumnDue (next_column column) → Ends column item spot
   Close : item ≡ Sign 41 → spot ≡ NothingDue → Ends column item spot
 
-ends_is : (column : Column) (item : Item) (spot : Spot) → ends_column column item ≡ Some spot → Ends column item spot
+ends_is : (column : ColumnSpot) (item : Item) (spot : Spot) → ends_column column item ≡ Some spot → Ends column item spot
 ends_is column (Sign sign) spot e =
     elim (sign == 44) as (λ b. (sign == 44) ≡ b → cond b (Some (ColumnDue (next_column column))) (when (sign == 41) NothingDue) ≡ Some spot → Ends column (Sign sign) spot) [
       | true ↦ λ q e. Comma (ap Sign (same_number sign 44 q)) (sym (some_is _ _ e))
@@ -122,17 +129,17 @@ ends_is column _ spot e = cc
 onto : (i j : Item) (xs ys : List Item) → i ≡ j → xs ≡ ys → i ∷ xs ≡ j ∷ ys
 onto i j xs ys e f = cc
 
-more_from : (column : Column) (item : Item) (items : List Item) (spot : Spot) → ends_column column item ≡ Some spot → (Rest spot items) → MoreColumns column (item ∷ items)
+more_from : (column : ColumnSpot) (item : Item) (items : List Item) (spot : Spot) → ends_column column item ≡ Some spot → (Rest spot items) → MoreColumns column (item ∷ items)
 more_from column item items spot e r = cases (ends_is column item spot e)
   where
     cases : Ends column item spot → MoreColumns column (item ∷ items)
     cases (Comma i s) = let f : FromName (next_column column) items = subst (λ (x : Spot). Rest x items) s r in record { columns = f.first ∷ f.columns; are = onto item (Sign 44) items (column_items f.first ++ more_columns f.columns) i f.are; marked = f.marked }
     cases (Close i s) = let f : items ≡ [] = subst (λ (x : Spot). Rest x items) s r in record { columns = []; are = onto item (Sign 41) items [] i f; marked = tt }
 
-bare : (column : Column) (items : List Item) → TakesMark column Bare → MoreColumns column items → FromMark column items
+bare : (column : ColumnSpot) (items : List Item) → TakesMark column Bare → MoreColumns column items → FromMark column items
 bare column items t m = record { mark = Bare; takes = t; columns = m.columns; are = m.are; marked = m.marked }
 
-mark_from : (column : Column) (item : Item) (items : List Item) (spot : Spot) → marked column item ≡ Some spot → Rest spot items → FromMark column (item ∷ items)
+mark_from : (column : ColumnSpot) (item : Item) (items : List Item) (spot : Spot) → marked column item ≡ Some spot → Rest spot items → FromMark column (item ∷ items)
 mark_from FirstColumn (Word KeyWord) items spot e r = let s : CommaDue FirstColumn ≡ spot = some_is _ _ e in let m : MoreColumns FirstColumn items = subst (λ (x : Spot). Rest x items) (sym s) r in record { mark = Key; takes = refl; columns = m.columns; are = on (Word KeyWord) items (more_columns m.columns) m.are; marked = m.marked }
 mark_from FirstColumn _ items spot e r = cc
 mark_from SecondColumn (Word KeyWord) items spot e r = let s : CommaDue SecondColumn ≡ spot = some_is _ _ e in let m : MoreColumns SecondColumn items = subst (λ (x : Spot). Rest x items) (sym s) r in record { mark = Key; takes = tt; columns = m.columns; are = on (Word KeyWord) items (more_columns m.columns) m.are; marked = m.marked }

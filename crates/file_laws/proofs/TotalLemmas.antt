@@ -1,9 +1,12 @@
 -- Where each place tells its items, each list of parts is a whole line or has a first misfit.
 use Rattle.std.proofs.Common.{◌≡◌, Bool, true, false, List, [], ◌∷◌, ◌++◌, Option, Some, None, refl, sym, ap, subst, ◌∙◌, append_assoc, append-nil}
 use Rattle.file_text.specs.Parts.{Part}
-use Rattle.file_text.specs.Said.{Said, Section, Item, Spells}
+use Rattle.file_text.specs.declared.places.Section.{Section}
+use Rattle.file_text.specs.Said.{Said, Item, Spells}
 use Rattle.file_text.specs.Rules.{Digit, misplaced, InRange, Begins, Misfit, Missing, Unfit, Misplaced, Misses}
-use Rattle.file_text.specs.Spots.{Spot, SectionDue, moved, bound, walked, may_end}
+use Rattle.file_text.specs.declared.places.Spot.{Spot}
+use Rattle.file_text.specs.declared.places.Spot.TheVariants.{SectionDue}
+use Rattle.file_text.specs.Spots.{moved, bound, walked, may_end}
 use Rattle.file_laws.specs.Laws.{Told, TheItem, NoItem, Tells, Decided, Whole, Fails}
 use Rattle.file_laws.proofs.WalkLemmas.{complete}
 use Rattle.file_laws.proofs.SoundLemmas.{sound, lives}

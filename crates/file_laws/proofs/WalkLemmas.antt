@@ -4,22 +4,29 @@ use Rattle.std.specs.Bool.{⊤}
 use Rattle.std.specs.List.{AllByRecursion}
 use Rattle.row_types.specs.declared.table_schema.ColumnKind.{ColumnKind}
 use Rattle.row_types.specs.declared.table_schema.ColumnKind.TheVariants.{Int as IntColumn, BigInt, Text as TextColumn}
-use Rattle.file_text.specs.Said.{Said, Skipped, Header, Isolation, Replicas, TableOf, RowOf, SessionOf, LocalOf, StepOf, Schedule, End, Mark, Bare, Key, NotNull, ColumnText, Literal, Number, Quoted, NullWord, Level, RepeatableRead, ReadCommitted, ReadUncommitted, Serializable, Section, PtcLines, IsolationLines, ReplicaLines, TableLines, RowLines, SessionLines, LocalLines, ScheduleLines, EndLines, section_of, First, ScheduleWord, Item, Word, Sign, Name, Turns, kind_items, mark_items, column_items, more_columns, columns_items, literal_items, more_literals, literals_items, behind_first, is_key, HasNoKey, KeysFirst, HasForm, IsLineOf, HasLiteral}
-use Rattle.file_text.specs.Spots.{Column, FirstColumn, SecondColumn, FurtherColumn, Spot, SectionDue, ColumnDue, MarkDue, CommaDue, NothingDue, TurnsDue, LiteralDue, LiteralEnds, first_spot, next_column, walked, may_end}
+use Rattle.file_text.specs.declared.places.Section.{Section}
+use Rattle.file_text.specs.declared.places.Section.TheVariants.{PtcLines, IsolationLines, ReplicaLines, TableLines, RowLines, SessionLines, LocalLines, ScheduleLines, EndLines}
+use Rattle.file_text.specs.declared.places.Keyword.TheVariants.{First}
+use Rattle.file_text.specs.Said.{Said, Skipped, Header, Isolation, Replicas, TableOf, RowOf, SessionOf, LocalOf, StepOf, Schedule, End, Mark, Bare, Key, NotNull, ColumnText, Literal, Number, Quoted, NullWord, Level, RepeatableRead, ReadCommitted, ReadUncommitted, Serializable, section_of, ScheduleWord, Item, Word, Sign, Name, Turns, kind_items, mark_items, column_items, more_columns, columns_items, literal_items, more_literals, literals_items, behind_first, is_key, HasNoKey, KeysFirst, HasForm, IsLineOf, HasLiteral}
+use Rattle.file_text.specs.declared.places.ColumnSpot.{ColumnSpot}
+use Rattle.file_text.specs.declared.places.ColumnSpot.TheVariants.{FirstColumn, SecondColumn, FurtherColumn}
+use Rattle.file_text.specs.declared.places.Spot.{Spot}
+use Rattle.file_text.specs.declared.places.Spot.TheVariants.{SectionDue, ColumnDue, MarkDue, CommaDue, NothingDue, TurnsDue, LiteralDue, LiteralEnds}
+use Rattle.file_text.specs.Spots.{first_spot, next_column, walked, may_end}
 use Rattle.file_laws.specs.Laws.{WalksThrough}
 
 -- behind a column with this mark
-abbrev pub behind_column : Column → Mark → Spot
+abbrev pub behind_column : ColumnSpot → Mark → Spot
 behind_column column Bare = MarkDue column
 behind_column column Key = CommaDue column
 behind_column column NotNull = CommaDue column
 
-abbrev pub TakesMark : Column → Mark → Type 0
+abbrev pub TakesMark : ColumnSpot → Mark → Type 0
 TakesMark FirstColumn mark = is_key mark ≡ true
 TakesMark SecondColumn mark = ⊤
 TakesMark FurtherColumn mark = is_key mark ≡ false
 
-column_walks : (column : Column) (name : List ℕ) (kind : ColumnKind) (mark : Mark) (rest : List Item) → TakesMark column mark
+column_walks : (column : ColumnSpot) (name : List ℕ) (kind : ColumnKind) (mark : Mark) (rest : List Item) → TakesMark column mark
     → walked (ColumnDue column) (Name name ∷ ((kind_items kind ++ mark_items mark) ++ rest)) ≡ walked (behind_column column mark) rest
 column_walks FirstColumn name IntColumn Key rest h = refl
 column_walks FirstColumn name BigInt Key rest h = refl
@@ -43,7 +50,7 @@ column_walks FurtherColumn name BigInt NotNull rest h = refl
 column_walks FurtherColumn name (TextColumn max) NotNull rest h = refl
 column_walks FurtherColumn name kind Key rest h = absurd cc
 
-comma_walks : (column : Column) (mark : Mark) (rest : List Item) → TakesMark column mark → walked (behind_column column mark) (Sign 44 ∷ rest) ≡ walked (ColumnDue (next_column column)) rest
+comma_walks : (column : ColumnSpot) (mark : Mark) (rest : List Item) → TakesMark column mark → walked (behind_column column mark) (Sign 44 ∷ rest) ≡ walked (ColumnDue (next_column column)) rest
 comma_walks FirstColumn Key rest h = refl
 comma_walks FirstColumn Bare rest h = absurd cc
 comma_walks FirstColumn NotNull rest h = absurd cc
@@ -54,7 +61,7 @@ comma_walks FurtherColumn Bare rest h = refl
 comma_walks FurtherColumn NotNull rest h = refl
 comma_walks FurtherColumn Key rest h = refl
 
-close_walks : (column : Column) (mark : Mark) → TakesMark column mark → walked (behind_column column mark) (Sign 41 ∷ []) ≡ Some NothingDue
+close_walks : (column : ColumnSpot) (mark : Mark) → TakesMark column mark → walked (behind_column column mark) (Sign 41 ∷ []) ≡ Some NothingDue
 close_walks FirstColumn Key h = refl
 close_walks FirstColumn Bare h = absurd cc
 close_walks FirstColumn NotNull h = absurd cc
@@ -65,10 +72,10 @@ close_walks FurtherColumn Bare h = refl
 close_walks FurtherColumn NotNull h = refl
 close_walks FurtherColumn Key h = refl
 
-one_walks : (column : Column) (c : ColumnText) (rest : List Item) → TakesMark column c.mark → walked (ColumnDue column) (column_items c ++ rest) ≡ walked (behind_column column c.mark) rest
+one_walks : (column : ColumnSpot) (c : ColumnText) (rest : List Item) → TakesMark column c.mark → walked (ColumnDue column) (column_items c ++ rest) ≡ walked (behind_column column c.mark) rest
 one_walks column c rest h = column_walks column c.name c.kind c.mark rest h
 
-further_walk : (column : Column) (mark : Mark) (columns : List ColumnText) → TakesMark column mark → next_column column ≡ FurtherColumn → AllByRecursion HasNoKey columns → walked (behind_column column mark) (more_columns columns) ≡ Some NothingDue
+further_walk : (column : ColumnSpot) (mark : Mark) (columns : List ColumnText) → TakesMark column mark → next_column column ≡ FurtherColumn → AllByRecursion HasNoKey columns → walked (behind_column column mark) (more_columns columns) ≡ Some NothingDue
 further_walk column mark [] t n h = close_walks column mark t
 further_walk column mark (c ∷ columns) t n h =
     comma_walks column mark (column_items c ++ more_columns columns) t

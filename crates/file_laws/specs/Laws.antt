@@ -2,8 +2,11 @@
 use Rattle.std.specs.Prelude.{◌≡◌, true, ℕ, List, [], Some}
 use Rattle.file_text.specs.declared.faults.FileFault.{FileFault}
 use Rattle.file_text.specs.Parts.{Part}
-use Rattle.file_text.specs.Said.{Said, Section, Item, IsItem, IsLineOf, Spells}
-use Rattle.file_text.specs.Spots.{Spot, SectionDue, moved, walked, may_end}
+use Rattle.file_text.specs.declared.places.Section.{Section}
+use Rattle.file_text.specs.Said.{Said, Item, IsItem, IsLineOf, Spells}
+use Rattle.file_text.specs.declared.places.Spot.{Spot}
+use Rattle.file_text.specs.declared.places.Spot.TheVariants.{SectionDue}
+use Rattle.file_text.specs.Spots.{moved, walked, may_end}
 use Rattle.file_text.specs.Rules.{InRange, MayBegin, Misfit, FitsUpTo, Says}
 use Rattle.file_text.specs.Causes.{Cause, IsRefused}
 use Rattle.file_text.specs.File.{Contents, IsFile, IsFirstFault}

@@ -15,7 +15,9 @@ use Rattle.file_text.specs.declared.faults.LimitKind.TheVariants.{Bytes, LineByt
 use Rattle.file_text.specs.declared.faults.LineCause.{LineCause}
 use Rattle.file_text.specs.declared.faults.LineCause.TheVariants.{AfterEnd, Order, Form, Twice, Row as RowCause, Statement as StatementCause, Tool, Script, Actor}
 use Rattle.file_text.specs.Parts.{Part, words_of, trimmed, past_end, place_of}
-use Rattle.file_text.specs.Said.{Said, Header, Isolation, Replicas, TableOf, RowOf, SessionOf, LocalOf, StepOf, Schedule, End, ColumnText, Section, PtcLines, IsolationLines, ReplicaLines, TableLines, SessionLines, LocalLines, ScheduleLines, section_of, Item, Name, Count, LocalWord, Turns, Node, All, Source, Replica, Literal, value_of, RepeatableRead, ScheduleWord, Once, Times, StopTool, ResumeTool, StopReplica, StartReplica, Turn, OfSession, OfTool, OfSync, OfWorker, OfFurtherWorker, OfLocal}
+use Rattle.file_text.specs.declared.places.Section.{Section}
+use Rattle.file_text.specs.declared.places.Section.TheVariants.{PtcLines, IsolationLines, ReplicaLines, TableLines, SessionLines, LocalLines, ScheduleLines}
+use Rattle.file_text.specs.Said.{Said, Header, Isolation, Replicas, TableOf, RowOf, SessionOf, LocalOf, StepOf, Schedule, End, ColumnText, section_of, Item, Name, Count, LocalWord, Turns, Node, All, Source, Replica, Literal, value_of, RepeatableRead, ScheduleWord, Once, Times, StopTool, ResumeTool, StopReplica, StartReplica, Turn, OfSession, OfTool, OfSync, OfWorker, OfFurtherWorker, OfLocal}
 use Rattle.file_text.specs.Context.{schemas_of, replicas_of, sessions_in, locals_in, scheduled_in, is_ended, rank, section_at, is_there, in_script, is_open}
 use Rattle.file_text.specs.Rules.{is_skipped, Opens, OpensNone, parts_in, turns_among, Begins, Misfit, offset_of, next_place, next_text, FitsUpTo, word_step, Says}
 

@@ -5,7 +5,9 @@ use Rattle.row_types.specs.declared.table_schema.Column.{Column}
 use Rattle.row_types.specs.declared.table_schema.Schema.{Schema}
 use Rattle.ptc_statement.specs.declared.scripts.ScriptStep.{ScriptStep}
 use Rattle.ptc_statement.specs.declared.scripts.ScriptStep.TheVariants.{Begin, Commit, Rollback, Run}
-use Rattle.file_text.specs.Said.{Said, Replicas, TableOf, SessionOf, LocalOf, StepOf, Schedule, End, ColumnText, Mark, Bare, Key, NotNull, Section, PtcLines, IsolationLines, ReplicaLines, TableLines, RowLines, SessionLines, LocalLines, ScheduleLines, EndLines, section_of, ScheduleWord, Times}
+use Rattle.file_text.specs.declared.places.Section.{Section}
+use Rattle.file_text.specs.declared.places.Section.TheVariants.{PtcLines, IsolationLines, ReplicaLines, TableLines, RowLines, SessionLines, LocalLines, ScheduleLines, EndLines}
+use Rattle.file_text.specs.Said.{Said, Replicas, TableOf, SessionOf, LocalOf, StepOf, Schedule, End, ColumnText, Mark, Bare, Key, NotNull, section_of, ScheduleWord, Times}
 
 abbrev pub is_nullable : Mark → Bool
 is_nullable Bare = true

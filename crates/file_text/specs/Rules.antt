@@ -7,7 +7,10 @@ use Rattle.statement_grammar.specs.FirstFault.{IsText}
 use Rattle.ptc_statement.specs.declared.scripts.ScriptStep.{ScriptStep}
 use Rattle.ptc_statement.specs.declared.scripts.ScriptStep.TheVariants.{Begin, Commit, Rollback, Run}
 use Rattle.file_text.specs.Parts.{Part, is_sign, words_of, signed_words_of, row_parts_of, trimmed}
-use Rattle.file_text.specs.Said.{Said, Skipped, StepOf, Section, PtcLines, IsolationLines, ReplicaLines, TableLines, RowLines, SessionLines, LocalLines, ScheduleLines, EndLines, section_of, first_word, First, behind_first, HasForm, IsLineOf, Item, Word, Sign, Version, Count, Length, SessionWord, LocalWord, Turns, Digits, Spells, IsItem, Once, Times, Turn, OfFurtherWorker}
+use Rattle.file_text.specs.declared.places.Section.{Section}
+use Rattle.file_text.specs.declared.places.Section.TheVariants.{PtcLines, IsolationLines, ReplicaLines, TableLines, RowLines, SessionLines, LocalLines, ScheduleLines, EndLines}
+use Rattle.file_text.specs.declared.places.Keyword.TheVariants.{First}
+use Rattle.file_text.specs.Said.{Said, Skipped, StepOf, section_of, first_word, behind_first, HasForm, IsLineOf, Item, Word, Sign, Version, Count, Length, SessionWord, LocalWord, Turns, Digits, Spells, IsItem, Once, Times, Turn, OfFurtherWorker}
 use Rattle.file_text.specs.Context.{schemas_of, sessions_in, locals_in, scheduled_in, turns_in, in_script}
 
 -- ---- which section a line belongs to

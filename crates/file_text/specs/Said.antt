@@ -10,6 +10,10 @@ use Rattle.row_types.specs.declared.table_schema.ColumnKind.TheVariants.{Int as 
 use Rattle.ptc_statement.specs.declared.scripts.ScriptStep.{ScriptStep}
 use Rattle.statement_tokens.specs.Spellings.{IsNameText, IsNumberText, IsQuoted}
 use Rattle.file_text.specs.Parts.{Part}
+use Rattle.file_text.specs.declared.places.Section.{Section}
+use Rattle.file_text.specs.declared.places.Section.TheVariants.{PtcLines, IsolationLines, ReplicaLines, TableLines, RowLines, SessionLines, LocalLines, ScheduleLines, EndLines}
+use Rattle.file_text.specs.declared.places.Keyword.{Keyword}
+use Rattle.file_text.specs.declared.places.Keyword.TheVariants.{First, WorkloadWord, RepeatableWord, ReadWord, CommittedWord, UncommittedWord, SerializableWord, IntWord, BigIntWord, VarcharWord, KeyWord, NotWord, NullKeyword}
 
 -- ---- words of a schedule
 
@@ -85,17 +89,6 @@ pub data Said : Type 0 where
   Schedule : List ScheduleWord → Said
   End : Said
 
-pub data Section : Type 0 where
-  PtcLines : Section
-  IsolationLines : Section
-  ReplicaLines : Section
-  TableLines : Section
-  RowLines : Section
-  SessionLines : Section
-  LocalLines : Section
-  ScheduleLines : Section
-  EndLines : Section
-
 abbrev pub section_of : Said → Option Section
 section_of Skipped = None
 section_of (Header version) = Some PtcLines
@@ -108,22 +101,6 @@ section_of (LocalOf replica session) = Some LocalLines
 section_of (StepOf step) = None
 section_of (Schedule words) = Some ScheduleLines
 section_of End = Some EndLines
-
--- the words in capitals
-pub data Keyword : Type 0 where
-  First : Section → Keyword
-  WorkloadWord : Keyword
-  RepeatableWord : Keyword
-  ReadWord : Keyword
-  CommittedWord : Keyword
-  UncommittedWord : Keyword
-  SerializableWord : Keyword
-  IntWord : Keyword
-  BigIntWord : Keyword
-  VarcharWord : Keyword
-  KeyWord : Keyword
-  NotWord : Keyword
-  NullKeyword : Keyword
 
 -- the word that begins a section's lines
 abbrev pub first_word : Section → List ℕ

@@ -1,41 +1,13 @@
 -- Which items may follow one another in a line: the places of a line, and what is due there.
 use Rattle.std.specs.Prelude.{Bool, true, false, List, [], ◌∷◌, Option, None, Some, if◌then◌else◌, ◌==◌}
-use Rattle.file_text.specs.Said.{Section, PtcLines, IsolationLines, ReplicaLines, TableLines, RowLines, SessionLines, LocalLines, ScheduleLines, EndLines, First, WorkloadWord, RepeatableWord, ReadWord, CommittedWord, UncommittedWord, SerializableWord, IntWord, BigIntWord, VarcharWord, KeyWord, NotWord, NullKeyword, Item, Word, Sign, Name, Version, Count, Length, NodeWord, SessionWord, LocalWord, Turns, Digits, Quote}
-
--- the first column of a table, which has KEY, the second, which may have it, and the others, which have not
-pub data Column : Type 0 where
-  FirstColumn : Column
-  SecondColumn : Column
-  FurtherColumn : Column
-
-pub data Spot : Type 0 where
-  SectionDue : Section → Spot
-  WorkloadDue : Spot
-  VersionDue : Spot
-  LevelDue : Spot
-  ReadDue : Spot
-  CommittedDue : Spot
-  CountDue : Spot
-  TableDue : Spot
-  ColumnsDue : Spot
-  ColumnDue : Column → Spot
-  KindDue : Column → Spot
-  LengthOpens : Column → Spot
-  LengthDue : Column → Spot
-  LengthCloses : Column → Spot
-  MarkDue : Column → Spot
-  NullDue : Column → Spot
-  CommaDue : Column → Spot
-  NodeDue : Spot
-  RowTableDue : Spot
-  RowOpens : Spot
-  LiteralDue : Spot
-  DigitsDue : Spot
-  LiteralEnds : Spot
-  SessionDue : Spot
-  LocalDue : Spot
-  TurnsDue : Spot
-  NothingDue : Spot
+use Rattle.file_text.specs.declared.places.Section.{Section}
+use Rattle.file_text.specs.declared.places.Section.TheVariants.{PtcLines, IsolationLines, ReplicaLines, TableLines, RowLines, SessionLines, LocalLines, ScheduleLines, EndLines}
+use Rattle.file_text.specs.declared.places.Keyword.TheVariants.{First, WorkloadWord, RepeatableWord, ReadWord, CommittedWord, UncommittedWord, SerializableWord, IntWord, BigIntWord, VarcharWord, KeyWord, NotWord, NullKeyword}
+use Rattle.file_text.specs.Said.{Item, Word, Sign, Name, Version, Count, Length, NodeWord, SessionWord, LocalWord, Turns, Digits, Quote}
+use Rattle.file_text.specs.declared.places.ColumnSpot.{ColumnSpot}
+use Rattle.file_text.specs.declared.places.ColumnSpot.TheVariants.{FirstColumn, SecondColumn, FurtherColumn}
+use Rattle.file_text.specs.declared.places.Spot.{Spot}
+use Rattle.file_text.specs.declared.places.Spot.TheVariants.{SectionDue, WorkloadDue, VersionDue, LevelDue, ReadDue, CommittedDue, CountDue, TableDue, ColumnsDue, ColumnDue, KindDue, LengthOpens, LengthDue, LengthCloses, MarkDue, NullDue, CommaDue, NodeDue, RowTableDue, RowOpens, LiteralDue, DigitsDue, LiteralEnds, SessionDue, LocalDue, TurnsDue, NothingDue}
 
 abbrev pub first_spot : Section → Spot
 first_spot PtcLines = WorkloadDue
@@ -48,7 +20,7 @@ first_spot LocalLines = LocalDue
 first_spot ScheduleLines = TurnsDue
 first_spot EndLines = NothingDue
 
-abbrev pub next_column : Column → Column
+abbrev pub next_column : ColumnSpot → ColumnSpot
 next_column FirstColumn = SecondColumn
 next_column SecondColumn = FurtherColumn
 next_column FurtherColumn = FurtherColumn
@@ -58,7 +30,7 @@ when true a = Some a
 when false a = None
 
 -- a comma or the closing parenthesis behind a column
-abbrev pub ends_column : Column → Item → Option Spot
+abbrev pub ends_column : ColumnSpot → Item → Option Spot
 ends_column column (Sign sign) = if sign == 44 then Some (ColumnDue (next_column column)) else when (sign == 41) NothingDue
 ends_column column _ = None
 
@@ -75,7 +47,7 @@ opens_section EndLines EndLines = Some NothingDue
 opens_section section _ = None
 
 -- KEY, NOT NULL or nothing behind a column's kind
-abbrev pub marked : Column → Item → Option Spot
+abbrev pub marked : ColumnSpot → Item → Option Spot
 marked FirstColumn (Word KeyWord) = Some (CommaDue FirstColumn)
 marked SecondColumn (Word KeyWord) = Some (CommaDue SecondColumn)
 marked SecondColumn (Word NotWord) = Some (NullDue SecondColumn)

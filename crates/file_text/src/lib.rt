@@ -2,5 +2,7 @@
 #![tactic(auto)]
 
 mod faults;
+mod places;
 
 pub use faults::{FileFault, LimitKind, LineCause};
+pub use places::{ColumnSpot, Keyword, Section, Spot};
