@@ -18,21 +18,11 @@ use Rattle.node_engine.specs.Dues.{IsDue}
 abbrev pub whole_way : (ℕ → Option ℕ) → ℕ → List Owner → ℕ → ℕ → Option (List ℕ)
 whole_way waits home way left at = option_map (λ (rest : List ℕ). numbers_of way ++ rest) (way_back waits home left at)
 
-pub way_begins : (waits : ℕ → Option ℕ) (home left at : ℕ) → whole_way waits home [] left at ≡ way_back waits home left at
-way_begins waits home left at = by (way_back waits home left at)
-  where
-    by : (o : Option (List ℕ)) → option_map (λ (rest : List ℕ). rest) o ≡ o
-    by None = refl
-    by (Some rest) = refl
-
 one_step : (waits : ℕ → Option ℕ) (home : ℕ) (way : List Owner) (left less at : ℕ) (next : Option ℕ) → left ≡ suc less → waits at ≡ next
     → whole_way waits home way left at ≡ option_map (λ (rest : List ℕ). numbers_of way ++ rest) (way_on home at next (way_back waits home less))
 one_step waits home way left less at next one is =
     ap (λ (n : ℕ). whole_way waits home way n at) one
     ∙ ap (λ (o : Option ℕ). option_map (λ (rest : List ℕ). numbers_of way ++ rest) (way_on home at o (way_back waits home less))) is
-
-pub way_ends : (waits : ℕ → Option ℕ) (home : ℕ) (way : List Owner) (left less at : ℕ) → left ≡ suc less → waits at ≡ None → whole_way waits home way left at ≡ None
-way_ends waits home way left less at one none = one_step waits home way left less at None one none
 
 numbers_more : (way : List Owner) (owner : Owner) → numbers_of (way ++ owner ∷ []) ≡ numbers_of way ++ owner.0 ∷ []
 numbers_more [] owner = refl

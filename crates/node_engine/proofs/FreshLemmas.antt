@@ -28,9 +28,6 @@ pub same_row : (schema : Schema) (key : List Value) (rows : List (List Value)) �
 same_row schema key [] = refl
 same_row schema key (row ∷ rows) = ap (λ (o : Option (List Value)). cond (is_eq (key_cmp key (key_of schema row))) (Some row) o) (same_row schema key rows)
 
-pub first_ordered : (schema : Schema) (rows : List (List Value)) → IsSchema schema → IsTable schema rows → AreOrdered schema.key_len rows
-first_ordered schema rows is table = table_ordered schema rows is table
-
 pub record FreshAt (schemas : List Schema) (start : List (List (List Value))) (number : ℕ) (schema : Schema) : Type 0 where
   pub is_schema : IsSchema schema
   pub is_table : IsTable schema (table_rows start number)

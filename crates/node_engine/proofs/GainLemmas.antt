@@ -91,9 +91,6 @@ row_is parts number schema (Some lock) kept found =
     let l = kept.live number schema found in
     ap (row_under (Some lock)) l.there ∙ l.rows lock.0
 
-pub statement_there : (parts : Parts) (owner : ℕ) (txn : Txn) (walk : Walk) → PartsKept parts → txn_of owner parts.txns ≡ Some txn → txn.current ≡ Some walk → FitsSchemas parts.schemas.tables walk.statement
-statement_there parts owner txn walk kept found current = subst (WalkFits parts.schemas.tables) current (kept.laws.fits owner txn found).current
-
 pub gain_is : (parts : Parts) (owner : ℕ) (txn : Txn) (walk : Walk) (schema : Schema) (reading : Reading) (slice : List TableView) (number : ℕ) (on_key : Option (List Value × LockMode)) (row : Option (List Value)) (gain : Gain)
     → PartsKept parts → txn_of owner parts.txns ≡ Some txn → txn.current ≡ Some walk → slice_get parts.schemas.tables number ≡ Some schema → number ≡ table_of walk.statement
     → reading_of owner parts.reads.items ≡ Some reading → slice ≡ parts.tables.items → row ≡ row_under on_key (slice_get slice number) → gain ≡ gain_of schema walk.statement row reading.sum

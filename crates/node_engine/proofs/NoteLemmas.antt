@@ -36,9 +36,6 @@ on_more table (first ∷ notes) note b e = at (first.table == table) (on_more ta
     at true more = omega (arith, more)
     at false more = more
 
-pub on_own : (table : ℕ) (notes : List Note) (note : Note) → note.table ≡ table → notes_on table (notes ++ note ∷ []) ≡ notes_on table notes + 1
-on_own table notes note same = on_more table notes note true (is_number note.table table same)
-
 pub on_other : (table : ℕ) (notes : List Note) (note : Note) → note.table ≢ table → notes_on table (notes ++ note ∷ []) ≡ notes_on table notes
 on_other table notes note apart =
     let e = on_more table notes note false (other_number note.table table apart) in omega (arith, e)

@@ -131,9 +131,3 @@ wait_is parts owner txn walk by kept found current is =
     is
     ∙ (λ i. plan_excluder (own i) (table_of walk.statement) (((λ j. plan_in (own j).0 walk parts.schemas.tables parts.tables.items parts.locks.held) ∙ plan_is parts txn walk kept) i) parts.locks.held)
     ∙ sym (ap (λ (o : Option Txn). wait_of (node_view parts) o) found ∙ ap (λ (o : Option Walk). wait_in (node_view parts) txn o) current)
-
-pub waits_none : (parts : Parts) (owner : ℕ) → txn_of owner parts.txns ≡ None → next_wait (node_view parts) owner ≡ None
-waits_none parts owner none = ap (λ (o : Option Txn). wait_of (node_view parts) o) none
-
-pub waits_idle : (parts : Parts) (owner : ℕ) (txn : Txn) → txn_of owner parts.txns ≡ Some txn → txn.current ≡ None → next_wait (node_view parts) owner ≡ None
-waits_idle parts owner txn found idle = ap (λ (o : Option Txn). wait_of (node_view parts) o) found ∙ ap (λ (o : Option Walk). wait_in (node_view parts) txn o) idle

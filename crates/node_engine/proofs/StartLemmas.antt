@@ -81,10 +81,6 @@ started_parts old new owner statement cursor kept still idle fits at_start is =
     (subst IsKept call (call_kept (Start owner statement) node fits kept.laws))
     (λ table key. started_live node idle.txn statement (own_txn node owner.0 idle.txn idle.found) idle.idle table key)
 
--- nothing that is seen changes
-pub same_kept : (old new : Parts) → PartsKept old → IsStill old new → new.txns ≡ old.txns → PartsKept new
-same_kept old new kept still txns = still_kept old new old.txns kept still txns kept.laws (λ table key. refl)
-
 -- a statement that was started is taken back
 
 started_call : (node : NodeView) (owner : Owner) (statement : Statement) (idle : IsIdle owner.0 node) → after_call (Start owner statement) node ≡ started idle.txn statement node

@@ -54,9 +54,6 @@ with_none position (statement ∷ statements) sums checks none = at (changes_che
     at true e f more = absurd (let q : true ≡ false = f in cc)
     at false e f more = passed position statement statements sums checks e ∙ more f
 
-pub once_rest : (statement : Statement) (statements : List Statement) → changes_checks statement ≡ false → changes_once (statement ∷ statements) ≡ changes_once statements
-once_rest statement statements e = ap (λ (b : Bool). cond b (not (changes_any statements)) (changes_once statements)) e
-
 -- behind the only change there is none
 pub only_one : (position : ℕ) (statement : Statement) (statements : List Statement) (sums : List Digest) (checks : List CheckEntry) → changes_checks statement ≡ true → changes_once (statement ∷ statements) ≡ true
     → checks_by position statement sums checks ≡ checks_with position (statement ∷ statements) sums checks
