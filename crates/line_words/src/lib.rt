@@ -14,3 +14,6 @@ pub use names::name_of;
 pub use nodes::{NodeWord, node_of};
 pub use numbers::{cut_decimal, decimal_of, digits_of, led_number};
 pub use sections::{is_keyword, section_named};
+
+#[cfg(test)]
+mod tests;
