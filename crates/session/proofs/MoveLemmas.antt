@@ -12,20 +12,23 @@ use Rattle.session.specs.Sessions.{SessionView, StepFits, rolled_back}
 use Rattle.session.specs.Moves.{Moved, is_victim, begun_move, next_move}
 use Rattle.session.specs.SessionParts.{session_view, moved}
 
+abbrev told : SessionView → NodeView → Moved
+told session node = record { turn = Victim; session = session; node = node }
+
 pub victim_moves : (retries : ℕ) (session : SessionView) (node : NodeView) → is_victim session node ≡ true
     → next_move retries session node ≡ record { turn = Victim; session = rolled_back retries session; node = node }
 victim_moves retries session node e =
-    ap (λ (b : Bool). cond b (record { turn = Victim; session = rolled_back retries session; node = node } : Moved) (begun_move retries (walk_of session.owner.0 node.txns) session node)) e
+    ap (λ (b : Bool). cond b (told (rolled_back retries session) node) (begun_move retries (walk_of session.owner.0 node.txns) session node)) e
 
 pub stands_moves : (retries : ℕ) (session : SessionView) (node : NodeView) → is_victim session node ≡ false
     → next_move retries session node ≡ begun_move retries (walk_of session.owner.0 node.txns) session node
 stands_moves retries session node e =
-    ap (λ (b : Bool). cond b (record { turn = Victim; session = rolled_back retries session; node = node } : Moved) (begun_move retries (walk_of session.owner.0 node.txns) session node)) e
+    ap (λ (b : Bool). cond b (told (rolled_back retries session) node) (begun_move retries (walk_of session.owner.0 node.txns) session node)) e
 
 pub victim_same : (retries : ℕ) (mid new : Parts) (session : SessionView) (node : NodeView) → session_view mid ≡ session → is_victim (session_view mid) node ≡ true
     → session_view new ≡ rolled_back retries (session_view mid) → moved Victim new node ≡ next_move retries session node
 victim_same retries mid new session node same victim rolled =
-    ap (λ (s : SessionView). (record { turn = Victim; session = s; node = node } : Moved)) (rolled ∙ ap (rolled_back retries) same)
+    ap (λ (s : SessionView). told s node) (rolled ∙ ap (rolled_back retries) same)
     ∙ sym (victim_moves retries session node (ap (λ (s : SessionView). is_victim s node) (sym same) ∙ victim))
 
 pub stands_same : (retries : ℕ) (mid : Parts) (session : SessionView) (node : NodeView) (result : Moved) → session_view mid ≡ session → is_victim (session_view mid) node ≡ false

@@ -1,5 +1,5 @@
 -- What a node's calls do for an owner with a transaction, and for one without.
-use Rattle.std.proofs.Common.{◌≡◌, ℕ, Bool, true, false, Option, None, Some, refl, ap, sym}
+use Rattle.std.proofs.Common.{◌≡◌, ℕ, Bool, true, false, Option, None, Some, List, [], refl, ap, sym, subst}
 use Rattle.std.specs.Prelude.{is_some, option_and_then}
 use Rattle.ptc_statement.specs.declared.statements.Statement.{Statement}
 use Rattle.statement_log.specs.declared.origins.Origin.{Origin}
@@ -10,6 +10,7 @@ use Rattle.node_model.specs.declared.txns.Txn.{Txn}
 use Rattle.node_model.specs.Txns.{txn_of}
 use Rattle.node_model.specs.Node.{NodeView, begun}
 use Rattle.node_model.specs.Calls.{after_call, begun_if, committed_if, Begin, Start, Commit}
+use Rattle.node_model.proofs.TxnLemmas.{txn_same}
 use Rattle.node_engine.specs.Answers.{walk_of, IsUnderWay, IsIdle, answer_written, commit_answer}
 
 pub under_way : (owner : ℕ) (node : NodeView) → is_some (walk_of owner node.txns) ≡ true → IsUnderWay owner node
@@ -64,3 +65,8 @@ starts owner statement node none = ap (after_call (Start owner statement)) (begi
 pub starts_begun : (owner : Owner) (statement : Statement) (node : NodeView) → is_some (txn_of owner.0 node.txns) ≡ true
     → after_call (Start owner statement) (after_call (Begin owner Client) node) ≡ after_call (Start owner statement) node
 starts_begun owner statement node some = ap (after_call (Start owner statement)) (begins_not owner node some)
+
+pub begun_idle : (owner : Owner) (node new : NodeView) → new ≡ begun owner Client node → IsIdle owner.0 new
+begun_idle owner node new is =
+    let txn : Txn = record { owner = owner; part = Client; done = []; current = None } in
+    subst (IsIdle owner.0) (sym is) (record { txn = txn; found = txn_same txn node.txns; idle = refl })

@@ -243,6 +243,7 @@ fn start_turn(
 }
 
 /// Begins a transaction and starts its first statement; out of memory leaves none.
+#[tactic(auto, using(crate::proofs::NodeLemmas::begun_idle))]
 fn begin_and_start(alloc: Global, owner: Owner, statement: Statement, node: &mut Node) -> R<()>
     requires none { txn_of owner.0 node.old.txns ≡ None }
     requires fits { FitsSchemas node.old.schemas statement }
