@@ -1,3 +1,0 @@
-mod NodeLemmas
-mod MoveLemmas
-mod PlaceLemmas
