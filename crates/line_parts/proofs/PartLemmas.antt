@@ -27,9 +27,6 @@ space_step RowTokens place byte bytes e = rw e refl
 at_place : (cutting : Cutting) (bytes : List ℕ) (place other : ℕ) → place ≡ other → parts_from cutting place bytes ≡ parts_from cutting other bytes
 at_place cutting bytes place other e = ap (λ (p : ℕ). parts_from cutting p bytes) e
 
-pub spaces_shorter : (bytes : List ℕ) → length (behind is_space bytes) ≤ length bytes
-spaces_shorter bytes = behind_shorter is_space bytes
-
 past_spaces : (cutting : Cutting) (place : ℕ) (bytes : List ℕ) → parts_from cutting place bytes ≡ parts_from cutting (place + (length bytes - length (behind is_space bytes))) (behind is_space bytes)
 past_spaces cutting place [] = at_place cutting [] place (place + (zero - zero)) (omega arith)
 past_spaces cutting place (byte ∷ bytes) = by_test (past_spaces cutting (suc place) bytes) (byte == 32) refl
@@ -362,7 +359,7 @@ pub one_part : (cutting : Cutting) (place : ℕ) (bytes more : List ℕ) (byte :
     (place + (length bytes - suc (length more) + (suc (length more) - length (behind_part cutting byte more)))) (behind_part cutting byte more) (cutting_behind cutting byte)
 one_part cutting place bytes more byte e =
     let s = no_space bytes byte more e in
-    let l = spaces_shorter bytes in
+    let l = behind_shorter is_space bytes in
     let m : suc (length more) ≤ length bytes = subst (λ (xs : List ℕ). length xs ≤ length bytes) e l in
     let k = part_shorter cutting byte more in
     let at : ℕ = place + (length bytes - suc (length more)) in

@@ -12,10 +12,6 @@ parts_from SignedWords place bytes = parts_of is_sign place bytes
 parts_from RowFront place bytes = row_parts_from place bytes
 parts_from RowTokens place bytes = tokens_within (length bytes) place bytes
 
-abbrev pub signs_of : Cutting → ℕ → Bool
-signs_of Words = no_sign
-signs_of cutting = is_sign
-
 -- no space and no sign
 abbrev pub is_plain : (ℕ → Bool) → ℕ → Bool
 is_plain alone byte = not (byte == 32) && not (alone byte)

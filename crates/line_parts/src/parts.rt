@@ -5,6 +5,7 @@ ghost use Rattle.line_parts.specs.Cuts.{parts_from, cutting_behind as the_cuttin
 
 use crate::cuttings::{Cutting, LinePart};
 use crate::token_ends::behind_token;
+use statement_tokens::behind_spaces;
 
 /// The first part of the rest of a line whose first byte has this place; None where there is none.
 #[tactic(auto, using(crate::proofs::PartLemmas::no_part, crate::proofs::PartLemmas::one_part))]
@@ -29,22 +30,6 @@ pub fn next_part<'a>(cutting: Cutting, place: u32, bytes: &'a [u8]) -> Option<Li
             })
         }
     }
-}
-
-/// What is behind the spaces with which a text begins.
-#[tactic(auto, using(crate::proofs::PartLemmas::spaces_shorter))]
-fn behind_spaces<'a>(text: &'a [u8]) -> &'a [u8]
-    ensures rest { result.now ≡ behind is_space text.now }
-    ensures shorter { length result.now ≤ length text.now }
-{
-    let mut rest = text;
-    while let Some((byte, more)) = rest.split_first() {
-        if *byte != b' ' {
-            return rest;
-        }
-        rest = more;
-    }
-    rest
 }
 
 fn cutting_behind(cutting: Cutting, byte: u8) -> Cutting

@@ -1,67 +1,23 @@
 ghost use Rattle.std.specs.Prelude.{◌≡◌, ◌<◌, length, [], ◌∷◌, MatchOption};
-ghost use Rattle.std.specs.Char.{is_ascii_digit};
-ghost use Rattle.statement_tokens.specs.Spellings.{is_letter as is_letter_byte, is_text_byte as is_byte_of_texts, is_word_byte as is_byte_of_words};
-ghost use Rattle.statement_tokens.specs.FirstToken.{behind, quoted};
+ghost use Rattle.statement_tokens.specs.FirstToken.{quoted};
 ghost use Rattle.file_text.specs.Parts.{behind_quote as the_rest_of_quote, behind_token as the_rest};
+
+use statement_tokens::{behind_digits, behind_word, is_letter, is_text_byte};
 
 /// What is behind a token with this first byte, which stands before the text.
 pub(crate) fn behind_token<'a>(byte: u8, text: &'a [u8]) -> &'a [u8]
     ensures { result.now ≡ the_rest byte text.now }
 {
     if is_letter(byte) {
-        return behind_name(text);
+        return behind_word(text);
     }
     if byte.is_ascii_digit() {
-        return behind_digits(text);
+        return behind_digits(text).1;
     }
     if byte == b'\'' {
         return behind_quote(text);
     }
     text
-}
-
-fn is_letter(byte: u8) -> bool
-    ensures { result ≡ is_letter_byte byte }
-{
-    byte.is_ascii_alphabetic() || byte == b'_'
-}
-
-fn is_word_byte(byte: u8) -> bool
-    ensures { result ≡ is_byte_of_words byte }
-{
-    is_letter(byte) || byte.is_ascii_digit()
-}
-
-fn is_text_byte(byte: u8) -> bool
-    ensures { result ≡ is_byte_of_texts byte }
-{
-    !byte.is_ascii_control()
-}
-
-fn behind_name<'a>(text: &'a [u8]) -> &'a [u8]
-    ensures { result.now ≡ behind is_byte_of_words text.now }
-{
-    let mut rest = text;
-    while let Some((byte, more)) = rest.split_first() {
-        if !is_word_byte(*byte) {
-            return rest;
-        }
-        rest = more;
-    }
-    rest
-}
-
-fn behind_digits<'a>(text: &'a [u8]) -> &'a [u8]
-    ensures { result.now ≡ behind is_ascii_digit text.now }
-{
-    let mut rest = text;
-    while let Some((byte, more)) = rest.split_first() {
-        if !byte.is_ascii_digit() {
-            return rest;
-        }
-        rest = more;
-    }
-    rest
 }
 
 /// What is behind a text in quotes, from behind its first quote; nothing where it does not close.

@@ -1,30 +1,9 @@
-ghost use Rattle.std.specs.Prelude.{◌≡◌, ◌≤◌, ◌-◌, ◌^◌, ◌==◌, ◌&&◌, ◌||◌, not, length, min, ℕ, MatchOption};
-ghost use Rattle.std.specs.Char.{is_ascii_digit};
-ghost use Rattle.statement_tokens.specs.Spellings.{IsNumberText, number_from};
-ghost use Rattle.statement_tokens.specs.FirstToken.{behind, front_of};
+ghost use Rattle.std.specs.Prelude.{◌≡◌, ℕ, MatchOption};
+ghost use Rattle.statement_tokens.specs.Spellings.{IsNumberText};
 ghost use Rattle.file_text.specs.Said.{IsDecimal, IsLed, begins_zero as first_is_zero};
 ghost use Rattle.line_words.specs.Numbers.{Capped, DecimalCut, NoDecimalCut, is_canonical as canonical};
 
-/// What is behind the digits with which a text begins, and their number, or the greatest one of 128 bits
-/// where it is greater.
-#[tactic(auto, using(statement_tokens::proofs::CutLemmas::digit_step, statement_tokens::proofs::CutLemmas::digits_end, statement_tokens::proofs::CutLemmas::digits_end_there))]
-fn behind_digits<'a>(text: &'a [u8]) -> (u128, &'a [u8])
-    ensures number { result.0 ≡ min (number_from 0 (front_of is_ascii_digit text.now)) (2 ^ 128 - 1) }
-    ensures rest { result.1.now ≡ behind is_ascii_digit text.now }
-{
-    let mut number = 0u128;
-    let mut rest = text;
-    while let Some((byte, more)) = rest.split_first() {
-        if !byte.is_ascii_digit() {
-            return (number, rest);
-        }
-        number = number
-            .saturating_mul(10)
-            .saturating_add((*byte - b'0') as u128);
-        rest = more;
-    }
-    (number, rest)
-}
+use statement_tokens::behind_digits;
 
 fn begins_zero(text: &[u8]) -> bool
     ensures { result ≡ first_is_zero text.now }

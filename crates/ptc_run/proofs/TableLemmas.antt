@@ -40,10 +40,6 @@ insert_is key value (entry ∷ entries) = insert_at (int_cmp key entry.0) key va
 
 -- ---- what is kept
 
-is_some-none : {X : Type 0} (o : Option X) → IsSome o → o ≡ None → ⊥
-is_some-none None h e = absurd cc
-is_some-none (Some x) h e = absurd cc
-
 tied : (key : ℤ) → is_at (int_cmp key) key ≡ true
 tied key = ap is_eq (tied_itself int_cmp_total key)
 

@@ -29,9 +29,6 @@ just_itself key other = both_ways (key_cmp other key) (key_cmp key other) (keys_
 pub itself_alone : (key other : List Value) → has (just_key key) other ≡ true → other ≡ key
 itself_alone key other is = keys_exact other key (is_equal (key_cmp other key) (sym (just_itself key other) ∙ is))
 
-pub first_here : (schema : Schema) (row : List Value) (rows : List (List Value)) → row_at schema (key_of schema row) (row ∷ rows) ≡ Some row
-first_here schema row rows = ap (λ (o : Ordering). cond (is_eq o) (Some row) (row_at schema (key_of schema row) rows)) (key_ties (key_of schema row))
-
 -- no row behind another has its key
 pub none_behind : (schema : Schema) (key row : List Value) (rows : List (List Value)) → key ≡ key_of schema row → IsBelowAll schema row rows → row_at schema key rows ≡ None
 none_behind schema key row [] is below = refl

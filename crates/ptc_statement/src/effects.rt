@@ -111,9 +111,10 @@ fn set_value(row: &mut Row, place: usize, value: Value)
     }
 }
 
-/// What a column keeps of a value that is assigned to it.
+/// What a column keeps of a value that is assigned to it: a number is clipped, a text is cut, and NULL is 0 or
+/// the empty text where the column takes none. Answers an error only when out of memory.
 /// Source: MySQL Reference Manual, "Server SQL Modes" (without strict mode) and "UPDATE Statement".
-fn kept(alloc: Global, column: &Column, value: Value) -> R<Value>
+pub fn kept(alloc: Global, column: &Column, value: Value) -> R<Value>
     ensures { IfOk result (λ kept. kept ≡ stored column.now value) }
 {
     match value {

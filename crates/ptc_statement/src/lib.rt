@@ -16,7 +16,7 @@ pub use conditions::Cond;
 pub use effect_laws::{
     no_taken_row_is_out_of_reach, statements_act_key_by_key, statements_leave_what_is_out_of_reach,
 };
-pub use effects::{act, updated};
+pub use effects::{act, kept, updated};
 pub use evaluation::takes;
 pub use expressions::{Expr, Op};
 pub use reaches::reach;

@@ -2,7 +2,6 @@
 #![tactic(auto)]
 
 mod drafts;
-mod kept_values;
 mod literal_faults;
 mod tables;
 mod tokens;

@@ -6,8 +6,8 @@ ghost use Rattle.statement_reader.specs.Spots.{end_of, literals_of};
 ghost use Rattle.statement_drafts.specs.Drafts.{draft_of, form_of};
 
 use crate::drafts::{Draft, Form};
-use crate::kept_values::kept;
 use crate::tables::{columns_of, schema_of, table_named};
+use ptc_statement::kept;
 use row_types::{Column, DigestKind, Edge, Key, LockMode, R, Row, Schema, Schemas, Value};
 use statement_reader::{End, Literals, column_named};
 use statement_tokens::{Keyword, Word};

@@ -82,10 +82,6 @@ earlier_more f None b = refl
 earlier_more f (Some g) None = refl
 earlier_more f (Some g) (Some h) = of_three f g h
 
-pub merged_assoc : (a b c : Option TextFault) → merged a (merged b c) ≡ merged (merged a b) c
-merged_assoc None b c = refl
-merged_assoc (Some f) b c = ap (λ (x : TextFault). Some x) (earlier_more f b c)
-
 -- the first of two lists
 pub first_of_both : (xs ys : List TextFault) → first_of (xs ++ ys) ≡ merged (first_of xs) (first_of ys)
 first_of_both [] ys = refl

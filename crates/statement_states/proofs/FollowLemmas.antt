@@ -111,25 +111,6 @@ follows_closed g schema w.Or h t l = refl
 follows_closed g schema w.Close h t l = refl
 follows_closed g schema _ h t l = absurd (omega arith)
 
-no_follow : (g : Setting) (schema : Schema) (u : Word) (h : m.Held Operand) (t : Token) → closing_level u ≡ 0 → followed g (operands schema) u h t ≡ None
-no_follow g schema (w.Math Plus) h t l = absurd (omega arith)
-no_follow g schema (w.Math Minus) h t l = absurd (omega arith)
-no_follow g schema (w.Math Times) h t l = absurd (omega arith)
-no_follow g schema (w.Compare o) h t l = absurd (omega arith)
-no_follow g schema w.Between h t l = absurd (omega arith)
-no_follow g schema w.Is h t l = absurd (omega arith)
-no_follow g schema w.And h t l = absurd (omega arith)
-no_follow g schema w.Or h t l = absurd (omega arith)
-no_follow g schema w.Close h t l = absurd (omega arith)
-no_follow g schema _ h t l = refl
-
-alike_self : (schema : Schema) (state : m.State Operand) → AreAlike schema state state
-alike_self schema state = record { facts = refl; whole = refl }
-
-pub stuck_at_once : (g : Setting) (schema : Schema) (u : Word) (h : Held) (t : Token) → closing_level u ≡ 0
-    → IsStuck schema (followed g (operands schema) u (held_of h) t) (m.Read (held_of h)) (m.Read (held_of h)) t t
-stuck_at_once g schema u h t l = record { none = no_follow g schema u (held_of h) t l; alike = alike_self schema (m.Read (held_of h)); token = refl }
-
 at_done : (done : Bool) (q : m.Held Operand) → (b : Bool) → done ≡ b → (if done then Some q else None) ≡ (if b then Some q else None)
 at_done done q b e = ap (λ (d : Bool). if d then Some q else None) e
 
@@ -140,10 +121,6 @@ closes_to g schema u h k t b l c e =
 
 alike_read : (schema : Schema) (k : ℕ) (h : Held) (z : Closed) → IsClosed schema k h z → AreAlike schema (m.Read (held_of h)) (m.Read (held_of z.held))
 alike_read schema k h z c = record { facts = c.alike.facts; whole = c.alike.whole }
-
-pub stuck_closing : (g : Setting) (schema : Schema) (u : Word) (h : Held) (k : Closed) (t : Token) → 1 ≤ closing_level u → IsClosed schema (closing_level u) h k → k.done ≡ false
-    → IsStuck schema (followed g (operands schema) u (held_of h) t) (m.Read (held_of h)) (m.Read (held_of k.held)) t t
-stuck_closing g schema u h k t l c e = record { none = closes_to g schema u h k t false l c e; alike = alike_read schema (closing_level u) h k c; token = refl }
 
 alike_through : (schema : Schema) (a b c : m.State Operand) → AreAlike schema a b → AreAlike schema b c → AreAlike schema a c
 alike_through schema a b c p q = record { facts = p.facts ∙ q.facts; whole = p.whole ∙ q.whole }

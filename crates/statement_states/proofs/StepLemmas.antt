@@ -15,10 +15,6 @@ use Rattle.statement_states.specs.Steps.{IsStepped}
 use Rattle.statement_states.specs.declared.states.Stepped.{Stepped}
 use Rattle.statement_states.specs.declared.states.Stepped.TheVariants as s
 
-pub minus_joins : (g : Setting) (schema : Schema) (fs : List (Frame Operand)) (o t : Token) → is_number t.word ≡ true
-    → m.behind_minus g (operands schema) fs o t ≡ Some (m.Read (record { stack = fs; condition = false; x = signed_operand o.place t.word }))
-minus_joins g schema fs o t e = rw e refl
-
 minus_parts : (g : Setting) (schema : Schema) (fs : List (Frame Operand)) (o t : Token) → is_number t.word ≡ false → m.behind_minus g (operands schema) fs o t ≡ m.begun g (operands schema) t.word (Before o ∷ fs) t
 minus_parts g schema fs o t e = rw e refl
 

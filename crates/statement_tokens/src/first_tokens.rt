@@ -44,7 +44,8 @@ fn first_token<'a>(alloc: Global, text: &'a [u8], behind_sign: bool) -> R<Cut<'a
     Ok(sign_at(*byte, rest))
 }
 
-fn is_letter(byte: u8) -> bool
+/// Whether a byte can begin a word: a letter or `_`.
+pub fn is_letter(byte: u8) -> bool
     ensures { result ≡ is_letter_byte byte }
 {
     byte.is_ascii_alphabetic() || byte == b'_'
@@ -56,14 +57,15 @@ fn is_word_byte(byte: u8) -> bool
     is_letter(byte) || byte.is_ascii_digit()
 }
 
-fn is_text_byte(byte: u8) -> bool
+/// Whether a byte can stand in a text between quotes: all but the ASCII control bytes.
+pub fn is_text_byte(byte: u8) -> bool
     ensures { result ≡ is_byte_of_texts byte }
 {
     !byte.is_ascii_control()
 }
 
 /// What is behind the letters, digits and `_` with which a text begins.
-fn behind_word<'a>(text: &'a [u8]) -> &'a [u8]
+pub fn behind_word<'a>(text: &'a [u8]) -> &'a [u8]
     ensures { result.now ≡ behind is_byte_of_words text.now }
 {
     let mut rest = text;
@@ -79,7 +81,7 @@ fn behind_word<'a>(text: &'a [u8]) -> &'a [u8]
 /// What is behind the digits with which a text begins, and their number, or the greatest one of 128 bits where
 /// it is greater.
 #[tactic(auto, using(crate::proofs::CutLemmas::digit_step, crate::proofs::CutLemmas::digits_end, crate::proofs::CutLemmas::digits_end_there))]
-fn behind_digits<'a>(text: &'a [u8]) -> (u128, &'a [u8])
+pub fn behind_digits<'a>(text: &'a [u8]) -> (u128, &'a [u8])
     ensures number { result.0 ≡ min (number_from 0 (front_of is_ascii_digit text.now)) (2 ^ 128 - 1) }
     ensures rest { result.1.now ≡ behind is_ascii_digit text.now }
 {

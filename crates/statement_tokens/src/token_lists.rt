@@ -9,8 +9,10 @@ use row_types::R;
 use std::alloc::Global;
 
 /// What is behind the spaces with which a text begins.
-fn behind_spaces<'a>(text: &'a [u8]) -> &'a [u8]
-    ensures { result.now ≡ behind is_space text.now }
+#[tactic(auto, using(crate::proofs::CutLemmas::behind_shorter))]
+pub fn behind_spaces<'a>(text: &'a [u8]) -> &'a [u8]
+    ensures rest { result.now ≡ behind is_space text.now }
+    ensures shorter { length result.now ≤ length text.now }
 {
     let mut rest = text;
     while let Some((byte, more)) = rest.split_first() {
