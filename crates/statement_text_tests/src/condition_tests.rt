@@ -1,144 +1,124 @@
-use crate::texts::{is_written, number};
-use ptc_statement::{Assignment, Cond, Expr, Op, Sets, Statement};
+use crate::texts::are_both;
+use ptc_statement::{Cond, Expr, Op, Statements};
 use row_types::{Key, R, Value};
-use sqlite_items::Boxed;
+use statement_builders::{
+    add, and, compare, delete, mul, neg, not, null_test, number, one, or, set, sub, update,
+};
 use std::alloc::Global;
 use std::test::Fail;
 
-fn neg(alloc: Global, operand: Expr) -> R<Expr> {
-    Ok(Expr::Neg(Boxed::new(alloc, operand)?))
-}
-
-fn add(alloc: Global, left: Expr, right: Expr) -> R<Expr> {
-    Ok(Expr::Add(Boxed::new(alloc, left)?, Boxed::new(alloc, right)?))
-}
-
-fn sub(alloc: Global, left: Expr, right: Expr) -> R<Expr> {
-    Ok(Expr::Sub(Boxed::new(alloc, left)?, Boxed::new(alloc, right)?))
-}
-
-fn mul(alloc: Global, left: Expr, right: Expr) -> R<Expr> {
-    Ok(Expr::Mul(Boxed::new(alloc, left)?, Boxed::new(alloc, right)?))
-}
-
 /// The UPDATE that sets the column v to the expression.
-fn update_to(alloc: Global, expr: Expr) -> R<Statement> {
-    let mut sets = Sets::new(alloc);
-    sets.push(Assignment { column: 2, expr })?;
-    Ok(Statement::Update {
-        table: 0,
-        sets,
-        cond: None,
-    })
-}
-
-/// Whether the statement is written as these two texts, one after the other.
-fn is_both(alloc: Global, statement: &Statement, start: &[u8], text: &[u8]) -> R<bool> {
-    let mut expected = Vec::from_slice(alloc, start)?;
-    expected.extend_from_slice(text)?;
-    is_written(alloc, statement, expected.as_slice())
+fn update_to(alloc: Global, expr: Expr) -> R<Statements> {
+    one(alloc, update(set(alloc, 2, expr)?, None))
 }
 
 /// Whether the expression is written so, set to the column v.
 fn expr_is(alloc: Global, expr: Expr, text: &[u8]) -> R<bool> {
-    let update = update_to(alloc, expr)?;
-    is_both(alloc, &update, b"UPDATE t SET v = ", text)
+    let updates = update_to(alloc, expr)?;
+    are_both(alloc, &updates, b"UPDATE t SET v = ", text)
 }
 
-/// Operands that are neither literals nor columns stand in parentheses, and a number from 0 on after a
-/// sign.
+fn sum_of_product(alloc: Global) -> R<Expr> {
+    add(alloc, Expr::Cell(2), mul(alloc, number(1), number(2))?)
+}
+
+fn difference_of_difference(alloc: Global) -> R<Expr> {
+    let inner = sub(alloc, Expr::Cell(2), number(-1))?;
+    sub(alloc, inner, Expr::Lit(Value::Null))
+}
+
+fn twice_negative(alloc: Global) -> R<Expr> {
+    neg(alloc, neg(alloc, Expr::Cell(2))?)
+}
+
+/// Operands that are neither literals nor columns stand in parentheses.
 #[test]
 fn expressions_are_written(rt: HostRuntime) -> Result<(), Fail> {
     let alloc = rt.alloc();
-    let product = mul(alloc, number(1), number(2))?;
-    let sum = add(alloc, Expr::Cell(2), product)?;
-    assert!(rt; expr_is(alloc, sum, b"v + (1 * 2)")?);
-    let inner = sub(alloc, Expr::Cell(2), number(-1))?;
-    let outer = sub(alloc, inner, Expr::Lit(Value::Null))?;
-    assert!(rt; expr_is(alloc, outer, b"(v - -1) - NULL")?);
-    let five = neg(alloc, number(5))?;
-    assert!(rt; expr_is(alloc, five, b"-(5)")?);
-    let twice = neg(alloc, number(-5))?;
-    assert!(rt; expr_is(alloc, twice, b"--5")?);
-    let cell = neg(alloc, Expr::Cell(2))?;
-    let of_cell = neg(alloc, cell)?;
-    assert!(rt; expr_is(alloc, of_cell, b"-(-v)")?);
+    assert!(rt; expr_is(alloc, sum_of_product(alloc)?, b"v + (1 * 2)")?);
+    assert!(rt; expr_is(alloc, difference_of_difference(alloc)?, b"(v - -1) - NULL")?);
+    assert!(rt; expr_is(alloc, twice_negative(alloc)?, b"-(-v)")?);
+    Ok(())
+}
+
+/// A number from 0 on stands in parentheses after a sign.
+#[test]
+fn numbers_behind_signs_are_written(rt: HostRuntime) -> Result<(), Fail> {
+    let alloc = rt.alloc();
+    assert!(rt; expr_is(alloc, neg(alloc, number(5))?, b"-(5)")?);
+    assert!(rt; expr_is(alloc, neg(alloc, number(-5))?, b"--5")?);
     Ok(())
 }
 
 fn is(op: Op, column: u32, value: i64) -> Cond {
-    Cond::Compare {
-        op,
-        left: Expr::Cell(column),
-        right: number(value),
-    }
-}
-
-fn not(alloc: Global, cond: Cond) -> R<Cond> {
-    Ok(Cond::Not(Boxed::new(alloc, cond)?))
-}
-
-fn and(alloc: Global, left: Cond, right: Cond) -> R<Cond> {
-    Ok(Cond::And(Boxed::new(alloc, left)?, Boxed::new(alloc, right)?))
-}
-
-fn or(alloc: Global, left: Cond, right: Cond) -> R<Cond> {
-    Ok(Cond::Or(Boxed::new(alloc, left)?, Boxed::new(alloc, right)?))
+    compare(op, Expr::Cell(column), number(value))
 }
 
 /// Whether the condition is written so, of a DELETE.
 fn cond_is(alloc: Global, cond: Cond, text: &[u8]) -> R<bool> {
-    let delete = Statement::Delete {
-        table: 0,
-        cond: Some(cond),
-    };
-    is_both(alloc, &delete, b"DELETE FROM t WHERE ", text)
+    let deletes = one(alloc, delete(Some(cond)))?;
+    are_both(alloc, &deletes, b"DELETE FROM t WHERE ", text)
+}
+
+fn above_and_not_null(alloc: Global) -> R<Cond> {
+    and(alloc, is(Op::Ge, 0, 3), not(alloc, null_test(2, false))?)
+}
+
+fn first_and_second(alloc: Global) -> R<Cond> {
+    and(alloc, is(Op::Eq, 0, 1), is(Op::Eq, 1, 2))
+}
+
+fn first_or_second(alloc: Global) -> R<Cond> {
+    or(alloc, is(Op::Le, 0, 1), is(Op::Gt, 1, 2))
+}
+
+fn chain(alloc: Global) -> R<Cond> {
+    let left = and(alloc, is(Op::Eq, 0, 1), is(Op::Ne, 1, 2))?;
+    and(alloc, left, is(Op::Lt, 2, 3))
+}
+
+/// `(a <= 1 OR b > 2) AND (a = 1 AND b = 2)`.
+fn or_under_and(alloc: Global) -> R<Cond> {
+    let left = first_or_second(alloc)?;
+    and(alloc, left, first_and_second(alloc)?)
+}
+
+/// `(a = 1 AND b = 2) OR (a <= 1 OR b > 2)`.
+fn and_under_or(alloc: Global) -> R<Cond> {
+    let left = first_and_second(alloc)?;
+    or(alloc, left, first_or_second(alloc)?)
 }
 
 /// An AND or OR under another stands in parentheses, but for a left one of the same word.
 #[test]
 fn conditions_are_written(rt: HostRuntime) -> Result<(), Fail> {
     let alloc = rt.alloc();
-    let null = Cond::IsNull {
-        expr: Expr::Cell(2),
-        negated: false,
-    };
-    let not_null = not(alloc, null)?;
-    let both = and(alloc, is(Op::Ge, 0, 3), not_null)?;
-    assert!(rt; cond_is(alloc, both, b"a >= 3 AND NOT (v IS NULL)")?);
-    let left = and(alloc, is(Op::Eq, 0, 1), is(Op::Ne, 1, 2))?;
-    let chain = and(alloc, left, is(Op::Lt, 2, 3))?;
-    assert!(rt; cond_is(alloc, chain, b"a = 1 AND b <> 2 AND v < 3")?);
-    let left = or(alloc, is(Op::Le, 0, 1), is(Op::Gt, 1, 2))?;
-    let right = and(alloc, is(Op::Eq, 0, 1), is(Op::Eq, 1, 2))?;
-    let mixed = and(alloc, left, right)?;
-    assert!(rt; cond_is(alloc, mixed, b"(a <= 1 OR b > 2) AND (a = 1 AND b = 2)")?);
-    let left = and(alloc, is(Op::Eq, 0, 1), is(Op::Eq, 1, 2))?;
-    let right = or(alloc, is(Op::Eq, 0, 1), is(Op::Eq, 1, 2))?;
-    let mixed = or(alloc, left, right)?;
-    assert!(rt; cond_is(alloc, mixed, b"(a = 1 AND b = 2) OR (a = 1 OR b = 2)")?);
+    assert!(rt;
+        cond_is(
+            alloc,
+            above_and_not_null(alloc)?,
+            b"a >= 3 AND NOT (v IS NULL)"
+        )?
+    );
+    assert!(rt; cond_is(alloc, chain(alloc)?, b"a = 1 AND b <> 2 AND v < 3")?);
+    let text = b"(a <= 1 OR b > 2) AND (a = 1 AND b = 2)";
+    assert!(rt; cond_is(alloc, or_under_and(alloc)?, text)?);
+    let text = b"(a = 1 AND b = 2) OR (a <= 1 OR b > 2)";
+    assert!(rt; cond_is(alloc, and_under_or(alloc)?, text)?);
     Ok(())
 }
 
-fn key_of_two(alloc: Global) -> R<Key> {
+fn whole_key_above(alloc: Global) -> R<Cond> {
     let mut key = Key::new(alloc);
     key.push(Value::Int(1))?;
     key.push(Value::Int(-2))?;
-    Ok(key)
+    Ok(Cond::KeyCompare { op: Op::Gt, key })
 }
 
 #[test]
 fn keys_and_nulls_are_compared(rt: HostRuntime) -> Result<(), Fail> {
     let alloc = rt.alloc();
-    let compared = Cond::KeyCompare {
-        op: Op::Gt,
-        key: key_of_two(alloc)?,
-    };
-    assert!(rt; cond_is(alloc, compared, b"(a, b) > (1, -2)")?);
-    let not_null = Cond::IsNull {
-        expr: Expr::Cell(2),
-        negated: true,
-    };
-    assert!(rt; cond_is(alloc, not_null, b"v IS NOT NULL")?);
+    assert!(rt; cond_is(alloc, whole_key_above(alloc)?, b"(a, b) > (1, -2)")?);
+    assert!(rt; cond_is(alloc, null_test(2, true), b"v IS NOT NULL")?);
     Ok(())
 }

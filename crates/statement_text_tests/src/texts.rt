@@ -1,5 +1,5 @@
-use ptc_statement::{Expr, Statement};
-use row_types::{ColumnKind, Columns, R, Schemas, Value};
+use ptc_statement::{Statement, Statements};
+use row_types::{ColumnKind, Columns, R, Schemas};
 use statement_text::write;
 use std::alloc::Global;
 use test_builders::{column, schema, schemas};
@@ -16,14 +16,26 @@ fn three_columns(alloc: Global) -> R<Schemas> {
 }
 
 /// Whether a statement is written so, after what stood in the text before.
-pub fn is_written(alloc: Global, statement: &Statement, text: &[u8]) -> R<bool> {
+fn is_written(alloc: Global, statement: &Statement, expected: &[u8]) -> R<bool> {
     let mut out = Vec::from_slice(alloc, b">")?;
     write(alloc, statement, &three_columns(alloc)?, &mut out)?;
-    let mut expected = Vec::from_slice(alloc, b">")?;
-    expected.extend_from_slice(text)?;
-    Ok(out.as_slice() == expected.as_slice())
+    Ok(out.as_slice() == expected)
 }
 
-pub fn number(number: i64) -> Expr {
-    Expr::Lit(Value::Int(number))
+/// Whether each of the statements is written as these two texts, one after the other.
+pub fn are_both(alloc: Global, statements: &Statements, start: &[u8], text: &[u8]) -> R<bool> {
+    let mut expected = Vec::from_slice(alloc, b">")?;
+    expected.extend_from_slice(start)?;
+    expected.extend_from_slice(text)?;
+    for statement in statements.as_slice() {
+        if !is_written(alloc, statement, expected.as_slice())? {
+            return Ok(false);
+        }
+    }
+    Ok(true)
+}
+
+/// Whether each of the statements is written so.
+pub fn are_written(alloc: Global, statements: &Statements, text: &[u8]) -> R<bool> {
+    are_both(alloc, statements, b"", text)
 }
