@@ -59,6 +59,25 @@ fn are_pages(lengths: &[usize], rows: usize) -> bool {
     count == rows
 }
 
+/// Puts a row that the table takes.
+fn put(table: &mut Table, row: Row) -> R<Option<Row>> {
+    if !table.takes(&row) {
+        return Err(Memory);
+    }
+    match table.put(row) {
+        Ok(replaced) => Ok(replaced),
+        Err((_, memory)) => Err(memory),
+    }
+}
+
+/// Puts a row that the table takes by reserved capacity.
+fn put_spare(table: &mut Table, row: Row) -> R<Option<Row>> {
+    if !table.takes(&row) || table.spare() == 0 {
+        return Err(Memory);
+    }
+    Ok(table.put_back(row))
+}
+
 impl Both {
     fn new(alloc: Global) -> Both {
         Both {
@@ -69,28 +88,18 @@ impl Both {
 
     /// Puts a value at a key of both: whether both answer the same.
     fn put(&mut self, alloc: Global, id: i64, v: i64) -> R<bool> {
-        let row = row(alloc, id, v)?;
-        if !self.table.takes(&row) {
-            return Err(Memory);
-        }
-        let Ok(replaced) = self.table.put(row) else {
-            return Err(Memory);
-        };
         let before = self.map.insert(id, v)?;
+        let replaced = put(&mut self.table, row(alloc, id, v)?)?;
         Ok(is_same(replaced.as_ref(), id, before))
     }
 
     /// Puts a value at a key of both, in the table by reserved capacity: whether both answer the same.
     fn put_back(&mut self, alloc: Global, id: i64, v: i64) -> R<bool> {
-        let row = row(alloc, id, v)?;
+        let before = self.map.insert(id, v)?;
         if self.table.spare() == 0 {
             self.table.reserve(3)?;
         }
-        if !self.table.takes(&row) || self.table.spare() == 0 {
-            return Err(Memory);
-        }
-        let replaced = self.table.put_back(row);
-        let before = self.map.insert(id, v)?;
+        let replaced = put_spare(&mut self.table, row(alloc, id, v)?)?;
         Ok(is_same(replaced.as_ref(), id, before))
     }
 
@@ -156,18 +165,22 @@ fn look_up(alloc: Global, both: &Both, order: KeyOrder) -> R<bool> {
 }
 
 /// Whether a table that is filled, thinned and filled again is as the map is all the way.
-fn keeps_to_the_map(alloc: Global, order: KeyOrder) -> R<bool> {
-    let mut both = Both::new(alloc);
-    if !fill(alloc, &mut both, order)? || !both.agree() {
+fn stay_the_same(alloc: Global, both: &mut Both, order: KeyOrder) -> R<bool> {
+    if !fill(alloc, both, order)? || !both.agree() {
         return Ok(false);
     }
-    if !thin(alloc, &mut both, order)? || !both.agree() {
+    if !thin(alloc, both, order)? || !both.agree() {
         return Ok(false);
     }
-    if !look_up(alloc, &both, order)? || !fill(alloc, &mut both, order)? {
+    if !look_up(alloc, both, order)? || !fill(alloc, both, order)? {
         return Ok(false);
     }
     Ok(both.agree())
+}
+
+fn keeps_to_the_map(alloc: Global, order: KeyOrder) -> R<bool> {
+    let mut both = Both::new(alloc);
+    stay_the_same(alloc, &mut both, order)
 }
 
 #[test]
@@ -229,14 +242,20 @@ fn calls_agree(alloc: Global, both: &mut Both, draws: &mut Draws, kinds: u32) ->
     Ok(both.agree())
 }
 
-/// A table that grows, stays as long as it is, and is emptied, is as the map is all the way.
+/// Whether a table that grows, stays as long as it is, and is emptied, is as the map is all the way.
+fn all_calls_agree(alloc: Global, both: &mut Both, draws: &mut Draws) -> R<bool> {
+    for kinds in [5, 8, 8, 5, 8u32] {
+        if !calls_agree(alloc, both, draws, kinds)? {
+            return Ok(false);
+        }
+    }
+    Ok(true)
+}
+
 #[test]
 fn random_calls(rt: HostRuntime) -> Result<(), Fail> {
     let alloc = rt.alloc();
     let mut both = Both::new(alloc);
-    let mut draws = Draws { state: 7 };
-    for kinds in [5, 8, 8, 5, 8u32] {
-        assert!(rt; calls_agree(alloc, &mut both, &mut draws, kinds)?);
-    }
+    assert!(rt; all_calls_agree(alloc, &mut both, &mut Draws { state: 7 })?);
     Ok(())
 }

@@ -72,42 +72,107 @@ fn have_ids(ahead: RowsAhead, ids: &[i64]) -> bool {
     ahead.next_row().is_none()
 }
 
-/// An empty table has nothing anywhere.
+/// Whether a table of keys of two values has nothing anywhere.
+fn is_bare(table: &Table, ten: &Key) -> bool {
+    table.is_empty()
+        && table.len() == 0
+        && table.key_len() == 2
+        && table.get(ten).is_none()
+        && table.next(&Edge::Low).is_none()
+        && table.prev(&Edge::High).is_none()
+        && table.nth(&Edge::Low, 1).is_none()
+        && table.row_past(&Edge::Low).is_none()
+}
+
+/// How many rows of a span are handed out.
+fn count_of(alloc: Global, table: &Table, span: &Span) -> R<usize> {
+    let rows = table.rows(alloc, span)?;
+    Ok(rows.len())
+}
+
 #[test]
 fn an_empty_table_has_no_rows(rt: HostRuntime) -> Result<(), Fail> {
     let alloc = rt.alloc();
-    let mut table = Table::new(alloc, 2);
     let ten = key(alloc, 10)?;
-    assert!(rt; table.is_empty() && table.len() == 0 && table.key_len() == 2);
-    assert!(rt; table.get(&ten).is_none() && table.remove(&ten).is_none());
-    assert!(rt; table.next(&Edge::Low).is_none() && table.prev(&Edge::High).is_none());
-    assert!(rt; table.nth(&Edge::Low, 1).is_none() && table.row_past(&Edge::Low).is_none());
-    let rows = table.rows(alloc, &Span::whole())?;
-    assert!(rt; rows.is_empty());
+    let mut table = Table::new(alloc, 2);
+    assert!(rt; is_bare(&table, &ten) && table.remove(&ten).is_none());
+    assert!(rt; count_of(alloc, &table, &Span::whole())? == 0);
     Ok(())
 }
 
-/// A row is found at its key alone, and a second one there takes its place.
+/// Whether a row is there and has these two values, or none where none is wanted.
+fn is_found(found: Option<&Row>, id: i64, v: Option<i64>) -> bool {
+    match v {
+        None => found.is_none(),
+        Some(v) => is_row(found, id, v),
+    }
+}
+
+/// Whether a key has this value, or no row where none is wanted.
+fn has_at(alloc: Global, table: &Table, id: i64, v: Option<i64>) -> R<bool> {
+    let key = key(alloc, id)?;
+    Ok(is_found(table.get(&key), id, v) && is_found(table.get_at(key.as_slice()), id, v))
+}
+
+/// Puts a value at a key: whether this one was there, or none.
+fn put_replaces(alloc: Global, table: &mut Table, id: i64, v: i64, old: Option<i64>) -> R<bool> {
+    let replaced = put(table, row(alloc, id, v)?)?;
+    Ok(is_found(replaced.as_ref(), id, old))
+}
+
+/// Puts a value back at a key: whether this one was there, or none.
+fn back_replaces(alloc: Global, table: &mut Table, id: i64, v: i64, old: Option<i64>) -> R<bool> {
+    let replaced = put_back(alloc, table, row(alloc, id, v)?)?;
+    Ok(is_found(replaced.as_ref(), id, old))
+}
+
+/// Takes a key away: whether it had this value, or none.
+fn remove_gives(alloc: Global, table: &mut Table, id: i64, old: Option<i64>) -> R<bool> {
+    let gone = table.remove(&key(alloc, id)?);
+    Ok(is_found(gone.as_ref(), id, old))
+}
+
+/// Whether a row is found at its key alone, and a second one there takes its place.
+fn puts_by_key(alloc: Global, table: &mut Table) -> R<bool> {
+    if table.len() != 3 || !has_at(alloc, table, 15, Some(7))? || !has_at(alloc, table, 16, None)? {
+        return Ok(false);
+    }
+    let replaced = put_replaces(alloc, table, 15, 8, Some(7))?;
+    Ok(replaced && table.len() == 3 && has_at(alloc, table, 15, Some(8))?)
+}
+
+/// Whether what is taken away is gone, and what is not there stays away.
+fn removes_by_key(alloc: Global, table: &mut Table) -> R<bool> {
+    if !remove_gives(alloc, table, 16, None)? || table.len() != 3 {
+        return Ok(false);
+    }
+    if !remove_gives(alloc, table, 15, Some(8))? || !has_at(alloc, table, 15, None)? {
+        return Ok(false);
+    }
+    Ok(have_ids(table.each(&Span::whole()), &[10, 20]) && table.all().len() == 2)
+}
+
 #[test]
 fn rows_are_put_and_taken_away(rt: HostRuntime) -> Result<(), Fail> {
     let alloc = rt.alloc();
     let mut table = three(alloc)?;
-    let fifteen = key(alloc, 15)?;
-    let sixteen = key(alloc, 16)?;
-    assert!(rt; table.len() == 3 && is_row(table.get(&fifteen), 15, 7));
-    assert!(rt; is_row(table.get_at(fifteen.as_slice()), 15, 7) && table.get_at(&[]).is_none());
-    assert!(rt; table.get(&sixteen).is_none());
-    let new = row(alloc, 15, 8)?;
-    let replaced = put(&mut table, new)?;
-    assert!(rt; is_row(replaced.as_ref(), 15, 7));
-    assert!(rt; table.len() == 3 && is_row(table.get(&fifteen), 15, 8));
-    assert!(rt; table.remove(&sixteen).is_none() && table.len() == 3);
-    let gone = table.remove(&fifteen);
-    assert!(rt; is_row(gone.as_ref(), 15, 8));
-    assert!(rt; table.get(&fifteen).is_none() && table.len() == 2);
-    assert!(rt; have_ids(table.each(&Span::whole()), &[10, 20]));
-    assert!(rt; table.all().len() == 2 && !table.all().is_empty());
+    assert!(rt; table.get_at(&[]).is_none() && !table.all().is_empty());
+    assert!(rt; puts_by_key(alloc, &mut table)?);
+    assert!(rt; removes_by_key(alloc, &mut table)?);
     Ok(())
+}
+
+/// Whether tables are the same both ways.
+fn are_same(table: &Table, other: &Table) -> bool {
+    table.same_rows(other) && other.same_rows(table)
+}
+
+/// Whether a table is another one no more, once that has another value and then a row less.
+fn differs_once_changed(alloc: Global, table: &Table, other: &mut Table) -> R<bool> {
+    if !put_replaces(alloc, other, 15, 8, Some(7))? || table.same_rows(other) {
+        return Ok(false);
+    }
+    Ok(remove_gives(alloc, other, 15, Some(8))? && !table.same_rows(other))
 }
 
 /// Tables have the same rows where each row has the same values.
@@ -116,33 +181,91 @@ fn tables_are_compared(rt: HostRuntime) -> Result<(), Fail> {
     let alloc = rt.alloc();
     let table = three(alloc)?;
     let mut other = three(alloc)?;
-    assert!(rt; table.same_rows(&other) && other.same_rows(&table));
-    let changed = row(alloc, 15, 8)?;
-    put(&mut other, changed)?;
-    assert!(rt; !table.same_rows(&other));
-    other.remove(&key(alloc, 15)?);
-    assert!(rt; !table.same_rows(&other) && !table.same_rows(&Table::new(alloc, 1)));
+    assert!(rt; are_same(&table, &other));
+    assert!(rt; differs_once_changed(alloc, &table, &mut other)?);
+    assert!(rt; !table.same_rows(&Table::new(alloc, 1)));
     Ok(())
 }
 
-/// The keys on both sides of each edge, and the first to the fourth past it.
+/// Whether the next key past an edge, and the one before it, are these, or none.
+fn lies_between(table: &Table, edge: &Edge, below: Option<i64>, above: Option<i64>) -> bool {
+    is_key(table.prev(edge), below) && is_key(table.next(edge), above)
+}
+
+/// The same of the edge before a key, and of that after it.
+fn before_lies(
+    alloc: Global,
+    table: &Table,
+    id: i64,
+    below: Option<i64>,
+    above: Option<i64>,
+) -> R<bool> {
+    let edge = Edge::Before(key(alloc, id)?);
+    Ok(lies_between(table, &edge, below, above))
+}
+
+fn after_lies(
+    alloc: Global,
+    table: &Table,
+    id: i64,
+    below: Option<i64>,
+    above: Option<i64>,
+) -> R<bool> {
+    let edge = Edge::After(key(alloc, id)?);
+    Ok(lies_between(table, &edge, below, above))
+}
+
+/// The keys on both sides of each edge.
 #[test]
 fn edges_lie_between_keys(rt: HostRuntime) -> Result<(), Fail> {
     let alloc = rt.alloc();
     let table = three(alloc)?;
+    assert!(rt; lies_between(&table, &Edge::Low, None, Some(10)));
+    assert!(rt; before_lies(alloc, &table, 15, Some(10), Some(15))?);
+    assert!(rt; after_lies(alloc, &table, 15, Some(15), Some(20))?);
+    assert!(rt; after_lies(alloc, &table, 12, Some(10), Some(15))?);
+    assert!(rt; lies_between(&table, &Edge::High, Some(20), None));
+    Ok(())
+}
+
+/// Whether the first two keys past an edge are these, and there is no third one.
+fn has_two_past(table: &Table, edge: &Edge, first: i64, second: i64) -> bool {
+    is_key(table.nth(edge, 1), Some(first))
+        && is_key(table.nth(edge, 2), Some(second))
+        && is_key(table.nth(edge, 3), None)
+}
+
+/// The first keys past an edge, and the row at the first of them.
+#[test]
+fn keys_are_counted_past_an_edge(rt: HostRuntime) -> Result<(), Fail> {
+    let alloc = rt.alloc();
+    let table = three(alloc)?;
     let before = Edge::Before(key(alloc, 15)?);
-    let after = Edge::After(key(alloc, 15)?);
-    let absent = Edge::After(key(alloc, 12)?);
-    assert!(rt; is_key(table.next(&Edge::Low), Some(10)) && is_key(table.prev(&Edge::Low), None));
-    assert!(rt; is_key(table.next(&before), Some(15)) && is_key(table.prev(&before), Some(10)));
-    assert!(rt; is_key(table.next(&after), Some(20)) && is_key(table.prev(&after), Some(15)));
-    assert!(rt; is_key(table.next(&absent), Some(15)) && is_key(table.prev(&absent), Some(10)));
-    assert!(rt; is_key(table.next(&Edge::High), None) && is_key(table.prev(&Edge::High), Some(20)));
-    assert!(rt; is_row(table.row_past(&after), 20, 2));
-    assert!(rt; is_key(table.nth(&before, 1), Some(15)) && is_key(table.nth(&before, 2), Some(20)));
-    assert!(rt; is_key(table.nth(&before, 3), None) && is_key(table.nth(&Edge::Low, 3), Some(20)));
+    assert!(rt; has_two_past(&table, &before, 15, 20) && is_row(table.row_past(&before), 15, 7));
+    assert!(rt; is_key(table.nth(&Edge::Low, 3), Some(20)));
     assert!(rt; is_key(table.nth(&Edge::Low, u64::MAX), None));
     Ok(())
+}
+
+/// The keys between 10 and 20, neither of them among these.
+fn inside(alloc: Global) -> R<Span> {
+    Ok(Span {
+        lo: Edge::After(key(alloc, 10)?),
+        hi: Edge::Before(key(alloc, 20)?),
+    })
+}
+
+/// A span whose edges leave no key.
+fn crossed(alloc: Global) -> R<Span> {
+    Ok(Span {
+        lo: Edge::After(key(alloc, 20)?),
+        hi: Edge::Before(key(alloc, 10)?),
+    })
+}
+
+/// Whether the rows of a span have these first values.
+fn span_has(alloc: Global, table: &Table, span: &Span, ids: &[i64]) -> R<bool> {
+    Ok(count_of(alloc, table, span)? == ids.len() && have_ids(table.each(span), ids))
 }
 
 /// The rows of a span, at its edges and where its edges leave none.
@@ -150,21 +273,9 @@ fn edges_lie_between_keys(rt: HostRuntime) -> Result<(), Fail> {
 fn spans_have_rows(rt: HostRuntime) -> Result<(), Fail> {
     let alloc = rt.alloc();
     let table = three(alloc)?;
-    let open = Span {
-        lo: Edge::After(key(alloc, 10)?),
-        hi: Edge::Before(key(alloc, 20)?),
-    };
-    let rows = table.rows(alloc, &open)?;
-    assert!(rt; rows.len() == 1 && is_row(rows.as_slice().first(), 15, 7));
-    let closed = keys_between(alloc, 10, 20)?;
-    let rows = table.rows(alloc, &closed)?;
-    assert!(rt; rows.len() == 3 && have_ids(table.each(&closed), &[10, 15, 20]));
-    let crossed = Span {
-        lo: closed.hi,
-        hi: closed.lo,
-    };
-    let rows = table.rows(alloc, &crossed)?;
-    assert!(rt; rows.is_empty() && have_ids(table.each(&crossed), &[]));
+    assert!(rt; span_has(alloc, &table, &inside(alloc)?, &[15])?);
+    assert!(rt; span_has(alloc, &table, &keys_between(alloc, 10, 20)?, &[10, 15, 20])?);
+    assert!(rt; span_has(alloc, &table, &crossed(alloc)?, &[])?);
     Ok(())
 }
 
@@ -185,26 +296,36 @@ fn has_key(found: Option<&[Value]>, want: &Key) -> bool {
     }
 }
 
-/// Keys of two columns, with an edge at a first column alone.
+/// Whether (1, 'b') is there, as the next key past (1, 'a').
+fn second_follows_first(alloc: Global, table: &Table) -> R<bool> {
+    let second = key_of_two(alloc, 1, b"b")?;
+    let after_first = Edge::After(key_of_two(alloc, 1, b"a")?);
+    Ok(table.get(&second).is_some() && has_key(table.next(&after_first), &second))
+}
+
 #[test]
 fn keys_have_two_columns(rt: HostRuntime) -> Result<(), Fail> {
     let alloc = rt.alloc();
     let table = two_columns(alloc)?;
-    let second = key_of_two(alloc, 1, b"b")?;
-    let after_first = Edge::After(key_of_two(alloc, 1, b"a")?);
-    assert!(rt; table.get(&second).is_some() && has_key(table.next(&after_first), &second));
+    assert!(rt; second_follows_first(alloc, &table)?);
     assert!(rt; have_ids(table.each(&Span::whole()), &[1, 1, 2]));
     Ok(())
 }
 
+/// Whether (1) is no key, and (1, 'b') the next one past the edge after it.
+fn prefix_is_before(alloc: Global, table: &Table) -> R<bool> {
+    let one = key(alloc, 1)?;
+    let first = key_of_two(alloc, 1, b"a")?;
+    let is_absent = table.get(&one).is_none();
+    Ok(is_absent && has_key(table.next(&Edge::After(one)), &first))
+}
+
+/// An edge at a first column alone.
 #[test]
 fn a_prefix_of_a_key_is_before_it(rt: HostRuntime) -> Result<(), Fail> {
     let alloc = rt.alloc();
     let table = two_columns(alloc)?;
-    let first = key_of_two(alloc, 1, b"a")?;
-    assert!(rt; table.get(&key(alloc, 1)?).is_none());
-    let after_one = Edge::After(key(alloc, 1)?);
-    assert!(rt; has_key(table.next(&after_one), &first));
+    assert!(rt; prefix_is_before(alloc, &table)?);
     Ok(())
 }
 
@@ -217,30 +338,41 @@ fn rows_without_a_key_are_not_taken(rt: HostRuntime) -> Result<(), Fail> {
     Ok(())
 }
 
-/// Reserved capacity that is promised stays until rows are put back, whatever is put in or taken away.
+/// Whether reserved capacity stays, whatever is put in or taken away.
+fn keeps_room(alloc: Global, table: &mut Table) -> R<bool> {
+    table.reserve(2)?;
+    if !remove_gives(alloc, table, 15, Some(9))? || !put_replaces(alloc, table, 1, 1, None)? {
+        return Ok(false);
+    }
+    let has_stayed = table.spare() >= 2;
+    table.reserve(1)?;
+    Ok(has_stayed && table.spare() >= 2)
+}
+
+/// Whether a row put back at an absent key uses up one spare row.
+fn uses_room(alloc: Global, table: &mut Table) -> R<bool> {
+    let spare = table.spare();
+    if spare == 0 || !back_replaces(alloc, table, 15, 9, None)? {
+        return Ok(false);
+    }
+    Ok(table.spare() == spare - 1 && have_ids(table.each(&Span::whole()), &[1, 10, 15, 20]))
+}
+
+/// Whether capacity for more rows than there can be is refused, and nothing changes.
+fn refuses_room(table: &mut Table) -> bool {
+    let spare = table.spare();
+    table.reserve(u64::MAX).is_err() && table.spare() == spare && table.len() == 4
+}
+
+/// Reserved capacity that is promised stays until rows are put back; a present key needs none.
 #[test]
 fn room_is_promised(rt: HostRuntime) -> Result<(), Fail> {
     let alloc = rt.alloc();
     let mut table = three(alloc)?;
-    assert!(rt; table.spare() == 0);
-    let again = row(alloc, 15, 9)?;
-    let replaced = put_back(alloc, &mut table, again).expect(&rt, "a present key");
-    assert!(rt; is_row(replaced.as_ref(), 15, 7) && table.spare() == 0);
-    table.reserve(2)?;
-    let fifteen = key(alloc, 15)?;
-    let taken = table.remove(&fifteen).expect(&rt, "a row");
-    let other = row(alloc, 1, 1)?;
-    put(&mut table, other)?;
-    assert!(rt; table.spare() >= 2);
-    table.reserve(1)?;
-    assert!(rt; table.spare() >= 2);
-    let spare = table.spare();
-    let replaced = put_back(alloc, &mut table, taken).expect(&rt, "room");
-    assert!(rt; replaced.is_none() && table.spare() == spare - 1);
-    assert!(rt; is_row(table.get(&fifteen), 15, 9));
-    assert!(rt; have_ids(table.each(&Span::whole()), &[1, 10, 15, 20]));
-    let room = table.reserve(u64::MAX);
-    assert!(rt; room.is_err() && table.spare() == spare - 1 && table.len() == 4);
+    assert!(rt; back_replaces(alloc, &mut table, 15, 9, Some(7))? && table.spare() == 0);
+    assert!(rt; keeps_room(alloc, &mut table)?);
+    assert!(rt; uses_room(alloc, &mut table)?);
+    assert!(rt; refuses_room(&mut table));
     Ok(())
 }
 
@@ -287,20 +419,24 @@ fn copy_of(alloc: Global, table: &Table) -> R<Table> {
     Table::from_rows(alloc, table.key_len(), rows.as_slice())
 }
 
+/// Whether a table's two thousand rows come out by rising key.
+fn rises(table: &Table) -> bool {
+    table.len() == 2000 && rising(table.each(&Span::whole())) == Some(2000)
+}
+
 /// Rows put in any order come out by rising key, and a table is made of them again.
 #[test]
 fn many_rows_rise_by_key(rt: HostRuntime) -> Result<(), Fail> {
     let alloc = rt.alloc();
     let table = many(alloc)?;
-    assert!(rt; table.len() == 2000 && rising(table.each(&Span::whole())) == Some(2000));
+    assert!(rt; rises(&table) && is_key(table.prev(&Edge::High), Some(2002)));
     for number in [0, 1, 999, 1999u16] {
-        let id = scattered(number);
-        let key = key(alloc, id)?;
-        assert!(rt; is_row(table.get(&key), id, number as i64), "row {number}");
+        assert!(rt;
+            has_at(alloc, &table, scattered(number), Some(number as i64))?,
+            "{number}"
+        );
     }
-    assert!(rt; is_key(table.prev(&Edge::High), Some(2002)));
-    let copy = copy_of(alloc, &table)?;
-    assert!(rt; copy.len() == 2000 && rising(copy.each(&Span::whole())) == Some(2000));
+    assert!(rt; rises(&copy_of(alloc, &table)?));
     Ok(())
 }
 
@@ -327,11 +463,10 @@ fn thirds_removed(alloc: Global) -> R<Table> {
 fn pages_are_split_and_joined(rt: HostRuntime) -> Result<(), Fail> {
     let alloc = rt.alloc();
     let table = thirds_removed(alloc)?;
-    let rows = table.rows(alloc, &Span::whole())?;
-    assert!(rt; rows.len() == 200);
+    assert!(rt; count_of(alloc, &table, &Span::whole())? == 200);
     assert!(rt; is_key(table.nth(&Edge::Low, 200), Some(299)));
-    assert!(rt; is_key(table.next(&Edge::After(key(alloc, 2)?)), Some(4)));
-    assert!(rt; is_key(table.prev(&Edge::Before(key(alloc, 4)?)), Some(2)));
+    assert!(rt; after_lies(alloc, &table, 2, Some(2), Some(4))?);
+    assert!(rt; before_lies(alloc, &table, 4, Some(2), Some(4))?);
     Ok(())
 }
 
@@ -343,16 +478,18 @@ fn is_length(found: Option<&usize>, want: usize) -> bool {
     }
 }
 
+/// Whether a copy of two thousand rows has 31 full pages, and a last one of 16 rows.
+fn fills_pages(alloc: Global, table: &Table) -> R<bool> {
+    let copy = copy_of(alloc, table)?;
+    let lengths = copy.page_lengths(alloc)?;
+    Ok(lengths.len() == 32 && is_length(lengths.first(), 64) && is_length(lengths.last(), 16))
+}
+
 /// A table that is made of rows in order has full pages, and what is left in a last one.
 #[test]
 fn rows_in_order_fill_pages(rt: HostRuntime) -> Result<(), Fail> {
     let alloc = rt.alloc();
-    let table = many(alloc)?;
-    let copy = copy_of(alloc, &table)?;
-    let lengths = copy.page_lengths(alloc)?;
-    assert!(rt;
-        lengths.len() == 32 && is_length(lengths.first(), 64) && is_length(lengths.last(), 16)
-    );
+    assert!(rt; fills_pages(alloc, &many(alloc)?)?);
     Ok(())
 }
 
@@ -382,5 +519,14 @@ fn keys_share_their_first_value(rt: HostRuntime) -> Result<(), Fail> {
     let alloc = rt.alloc();
     let table = sharing(alloc)?;
     assert!(rt; table.len() == 200 && finds_all(alloc, &table)?);
+    Ok(())
+}
+
+/// All rows come out in one list, by rising key.
+#[test]
+fn a_table_is_taken_apart(rt: HostRuntime) -> Result<(), Fail> {
+    let alloc = rt.alloc();
+    let rows = three(alloc)?.into_rows(alloc)?;
+    assert!(rt; rows.len() == 3 && is_row(rows.as_slice().first(), 10, 1));
     Ok(())
 }
