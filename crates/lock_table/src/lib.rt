@@ -7,8 +7,8 @@ mod foreign_keys;
 mod holdings;
 mod lock_laws;
 mod strongest;
-pub mod tables;
-pub mod wants;
+mod tables;
+mod wants;
 
 pub use lock_laws::{
     a_gap_has_no_key, gap_locks_only_keep_rows_out, holdings_go_together,
