@@ -193,15 +193,6 @@ committed_live node txn origin facts are fit found idle table key =
             unchanged (inl same) = same
             unchanged (inr on) = absurd (facts.alone_on_key txn.owner.0 a table key Exclusive (λ e. apart (sym e)) on there)
 
--- what a transaction's owner sees at a key: the live row where it has the key exclusively, and also where it has
--- passed nothing there
-pub seen_is_live : (node : NodeView) (txn : Txn) (table : ℕ) (key : List Value) → FactsOf node → txn_of txn.owner.0 node.txns ≡ Some txn
-    → Holds txn.owner.0 table (OnKey key Exclusive) node.held → live_row node table key ≡ seen node.schemas txn table key (committed_row node table key)
-seen_is_live node txn table key facts found on =
-    ap (λ (o : Option ℕ). live_from node.schemas node.txns o table key (committed_row node table key))
-    (exclusive_is txn.owner.0 table key node.held (λ b apart h. facts.alone_on_key txn.owner.0 b table key Exclusive (λ e. apart (sym e)) on h) on)
-    ∙ ap (λ (t : Option Txn). seen_by node.schemas t table key (committed_row node table key)) found
-
 -- a transaction that begins leaves the live rows
 pub begun_live : (node : NodeView) (owner : Owner) (part : Part) → FactsOf node → txn_of owner.0 node.txns ≡ None → (table : ℕ) (key : List Value)
     → live_row (begun owner part node) table key ≡ live_row node table key

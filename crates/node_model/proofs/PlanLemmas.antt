@@ -30,9 +30,6 @@ Takes mode plan key = (plan.on_key ≡ Some (key, mode)) ⊎ InGap plan key
 abbrev pub Passes : Plan → List Value → Type 0
 Passes plan key = (plan.ends ≡ true) ⊎ (is_before_edge plan.after key ≡ true)
 
-past_if_not : (edge : Edge) (key : List Value) → is_before_edge edge key ≡ false → is_past_edge edge key ≡ true
-past_if_not edge key behind = past_or_before edge key ∙ ap not behind
-
 pub not_both : (edge : Edge) (key : List Value) → is_before_edge edge key ≡ true → is_past_edge edge key ≡ true → ⊥
 not_both edge key before past = let q : true ≡ false = sym past ∙ past_or_before edge key ∙ ap not before in cc
 

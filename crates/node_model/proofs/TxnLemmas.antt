@@ -102,9 +102,6 @@ place_set owner (txn ∷ txns) new own there =
     at true t more = refl
     at false t more = ap (λ (ts : List Txn). txn ∷ ts) (more t)
 
-some_owner : (owner : ℕ) (txns : List Txn) (txn : Txn) → txn_of owner txns ≡ Some txn → txn.owner.0 ≡ owner
-some_owner owner txns txn found = txn_owner owner txn txns found
-
 pub started_is : (owner : ℕ) (txns : List Txn) (txn : Txn) (walk : Option Walk) → IsThere owner txns → txn ≡ slice_index_or txns (place_in owner txns) txn
     → slice_set txns (place_in owner txns) (record txn { current = walk }) ≡ with_current walk (txn_of owner txns) txns
 started_is owner txns txn walk there is =

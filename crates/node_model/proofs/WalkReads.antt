@@ -107,20 +107,6 @@ visit_read_more node txn walk schema mode key facts are is fit found current the
             absurd (not_both (Before key) other behind (ap (λ (k : List Value). edge_le (Before key) (Before k)) same ∙ ap is_le (key_ties key)))
         by (inr in_gap) = gap_reads node txn walk other facts found current (subst (λ (p : Plan). InGap p other) (sym plan) in_gap) ahead
 
--- where each row of the span stays, the rows read stay
-pub read_stays : (node now : NodeView) (txn : Txn) (schema : Schema) (statement : Statement) (edge : Edge) → TablesOf node → TablesOf now → IsSchema schema → now.schemas ≡ node.schemas
-    → AllByRecursion (FitsSchemas node.schemas) txn.done → AllByRecursion (FitsSchemas now.schemas) txn.done
-    → slice_get node.schemas (table_of statement) ≡ Some schema → slice_get now.schemas (table_of statement) ≡ Some schema
-    → ((key : List Value) → has (record { lo = (reach_of schema statement).lo; hi = edge }) key ≡ true → committed_row now (table_of statement) key ≡ committed_row node (table_of statement) key)
-    → rows_read now txn schema statement edge ≡ rows_read node txn schema statement edge
-read_stays node now txn schema statement edge are now_are is same_schemas fit now_fit found now_found same =
-    rows_same_in schema (record { lo = (reach_of schema statement).lo; hi = edge }) (rows_seen now txn.done (table_of statement)) (rows_seen node txn.done (table_of statement)) is
-    (seen_table now txn.done (table_of statement) schema now_are now_fit now_found) (seen_table node txn.done (table_of statement) schema are fit found)
-    (λ key over. seen_at now txn.done (table_of statement) schema key now_are now_fit now_found
-    ∙ ap (λ (schemas : List Schema). acts schemas txn.done (table_of statement) key (committed_row now (table_of statement) key)) same_schemas
-    ∙ ap (acts node.schemas txn.done (table_of statement) key) (same key over)
-    ∙ sym (seen_at node txn.done (table_of statement) schema key are fit found))
-
 -- the last visit of a walk reads nothing further
 pub last_visit_reads : (node : NodeView) (txn : Txn) (walk : Walk) (schema : Schema) (mode : LockMode) → FactsOf node → TablesOf node → IsSchema schema
     → AllByRecursion (FitsSchemas node.schemas) txn.done → txn_of txn.owner.0 node.txns ≡ Some txn → txn.current ≡ Some walk → slice_get node.schemas (table_of walk.statement) ≡ Some schema

@@ -2,9 +2,9 @@
 //! transactions and what they hold; which rows are live; what each call does; and what the locks keep.
 #![tactic(auto)]
 
-pub mod laws;
-pub mod parts;
-pub mod txns;
+mod laws;
+mod parts;
+mod txns;
 
 pub use laws::{a_commit_leaves_live_rows, locked_rows_stay, locks_keep_what_they_cover};
 pub use parts::Part;

@@ -24,7 +24,7 @@ use Rattle.ptc_statement.specs.Fits.{FitsSchemas}
 use Rattle.row_digest.specs.Digest.{no_rows}
 use Rattle.history.specs.Replay.{table_rows, fold}
 use Rattle.lock_table.specs.declared.wants.Owner.{Owner}
-use Rattle.txn_walk.specs.Plans.{next_visit}
+use Rattle.txn_walk.specs.Plans.{next_visit, walk_visit}
 use Rattle.node_model.specs.Kept.{FactsOf, TablesOf}
 use Rattle.node_model.specs.declared.parts.Part.{Part}
 use Rattle.node_model.specs.declared.parts.Part.TheVariants.{Client, Apply}
@@ -39,7 +39,7 @@ use Rattle.node_reads.specs.Gains.{row_met, gain_of, taken_at, sum_with}
 use Rattle.node_reads.specs.Readings.{IsUnread, IsSameReading, IsGrown}
 use Rattle.node_reads.specs.Reads.{rows_met, rows_taken, sum_made, tables_after_all, read_after, last_read, with_sum, sums_of}
 use Rattle.node_reads.specs.ReadBy.{Reads, IsOnWay, IsReadUpTo, IsReadSoFar, IsReading}
-use Rattle.node_reads.proofs.MetLemmas.{none_between, not_above, Walking, seen_tables, visit_meets}
+use Rattle.node_reads.proofs.MetLemmas.{none_between, not_above, seen_tables, visit_meets}
 use Rattle.node_reads.proofs.StatementLemmas.{last_read_more, sums_more, taken_more, sum_more, rows_read_is, sum_read_is}
 
 -- a transaction that begins has read nothing
@@ -276,16 +276,29 @@ plan_there : (node : NodeView) (txn : Txn) (walk : Walk) (schema : Schema) → s
 plan_there node txn walk schema there =
     ap (λ (o : Option Schema). option_map_or (λ (s : Schema). next_visit s walk.statement walk.cursor (stops node txn.owner.0 (table_of walk.statement)) (is_live node (table_of walk.statement))) o (empty_plan walk.cursor)) there
 
-met_of : (node : NodeView) (txn : Txn) (walk : Walk) (schema : Schema) (mode : LockMode) → Walking node txn walk schema mode
-    → Met schema (seen_tables node txn) walk.statement walk.cursor (plan_of node txn walk).after (row_met node (table_of walk.statement) (plan_of node txn walk).on_key) (plan_of node txn walk).ends
-met_of node txn walk schema mode w =
-    let m = visit_meets node txn walk schema mode w in
-    record { rows = m.rows (plan_of node txn walk).ends refl; on_way = m.on_way }
-
 way_of : (node : NodeView) (txn : Txn) (walk : Walk) (schema : Schema) (reading : Reading) → Visiting node txn walk schema → Reads walk.statement
     → IsReading node.schemas (fold node.schemas node.start node.history).tables txn reading → IsOnWay (reach_of schema walk.statement) walk.cursor
 way_of node txn walk schema reading v reads is =
     (subst (λ (w : Option Walk). IsReadSoFar node.schemas (seen_tables node txn) w reading) v.current is.so_far schema v.there).on_way reads
+
+met_of : (node : NodeView) (txn : Txn) (walk : Walk) (schema : Schema) (mode : LockMode) (reading : Reading) → Visiting node txn walk schema → Reads walk.statement
+    → IsReading node.schemas (fold node.schemas node.start node.history).tables txn reading
+    → plan_of node txn walk ≡ walk_visit mode (reach_of schema walk.statement) walk.cursor (stops node txn.owner.0 (table_of walk.statement))
+    → Met schema (seen_tables node txn) walk.statement walk.cursor (plan_of node txn walk).after (row_met node (table_of walk.statement) (plan_of node txn walk).on_key) (plan_of node txn walk).ends
+met_of node txn walk schema mode reading v reads is plan =
+    let m = visit_meets node txn walk schema mode (record {
+      facts = v.facts;
+      are = v.are;
+      is = v.is;
+      fit = v.fit;
+      found = v.found;
+      current = v.current;
+      there = v.there;
+      plan = plan;
+      none = v.none;
+      on_way = way_of node txn walk schema reading v reads is;
+    }) in
+    record { rows = m.rows (plan_of node txn walk).ends refl; on_way = m.on_way }
 
 abbrev pub gain_at : NodeView → Txn → Walk → Schema → Digest → Gain
 gain_at node txn walk schema sum = gain_of schema walk.statement (row_met node (table_of walk.statement) (plan_of node txn walk).on_key) sum
@@ -312,36 +325,13 @@ visited_is node txn (Delete of where_true) cursor schema old new v is grown =
 visited_is node txn (Update of sets where_true) cursor schema old new v is grown =
     visited_other node txn (record { statement = Update of sets where_true; cursor = cursor }) schema old new (record { taken = λ s m. refl; sum = λ m. refl; rows = λ ss t rs. refl; sums = λ ss t ds. refl; no = λ r. r }) v is grown
 visited_is node txn (LockRead of mode span where_true) cursor schema old new v is grown =
-    let walk : Walk = record { statement = LockRead of mode span where_true; cursor = cursor } in
-    let met = met_of node txn (record { statement = LockRead of mode span where_true; cursor = cursor }) schema mode (record {
-      facts = v.facts;
-      are = v.are;
-      is = v.is;
-      fit = v.fit;
-      found = v.found;
-      current = v.current;
-      there = v.there;
-      plan = plan_there node txn (record { statement = LockRead of mode span where_true; cursor = cursor }) schema v.there;
-      none = v.none;
-      on_way = way_of node txn (record { statement = LockRead of mode span where_true; cursor = cursor }) schema old v tt is;
-    }) in
+    let met = met_of node txn (record { statement = LockRead of mode span where_true; cursor = cursor }) schema mode old v tt is (plan_there node txn (record { statement = LockRead of mode span where_true; cursor = cursor }) schema v.there) in
     let after = plan_of node txn (record { statement = LockRead of mode span where_true; cursor = cursor }) in
     subst (λ (r : Bool). IsReading node.schemas (fold node.schemas node.start node.history).tables (moved_by r after.ends txn (record { statement = LockRead of mode span where_true; cursor = cursor }) after.after) new)
     (sym (no_insert txn.part (not after.insert)))
     (read_is node.schemas (fold node.schemas node.start node.history).tables txn of mode span where_true cursor after.after schema (row_met node of after.on_key) old new after.ends v.there v.current met is grown)
 visited_is node txn (Check of chunk span kind) cursor schema old new v is grown =
-    let met = met_of node txn (record { statement = Check of chunk span kind; cursor = cursor }) schema Shared (record {
-      facts = v.facts;
-      are = v.are;
-      is = v.is;
-      fit = v.fit;
-      found = v.found;
-      current = v.current;
-      there = v.there;
-      plan = plan_there node txn (record { statement = Check of chunk span kind; cursor = cursor }) schema v.there;
-      none = v.none;
-      on_way = way_of node txn (record { statement = Check of chunk span kind; cursor = cursor }) schema old v tt is;
-    }) in
+    let met = met_of node txn (record { statement = Check of chunk span kind; cursor = cursor }) schema Shared old v tt is (plan_there node txn (record { statement = Check of chunk span kind; cursor = cursor }) schema v.there) in
     let after = plan_of node txn (record { statement = Check of chunk span kind; cursor = cursor }) in
     subst (λ (r : Bool). IsReading node.schemas (fold node.schemas node.start node.history).tables (moved_by r after.ends txn (record { statement = Check of chunk span kind; cursor = cursor }) after.after) new)
     (sym (no_insert txn.part (not after.insert)))

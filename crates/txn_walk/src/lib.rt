@@ -3,7 +3,7 @@
 //! Statements in InnoDB").
 #![tactic(auto)]
 
-pub mod plans;
+mod plans;
 mod visit_laws;
 mod visits;
 mod walk_stops;
