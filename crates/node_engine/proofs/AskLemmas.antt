@@ -5,7 +5,7 @@ use Rattle.node_model.specs.declared.txns.Walk.{Walk}
 use Rattle.node_model.specs.declared.txns.Txn.{Txn}
 use Rattle.node_model.specs.Txns.{txn_of}
 use Rattle.node_model.specs.Node.{NodeView}
-use Rattle.node_engine.specs.Answers.{walk_of, IsUnderWay, IsIdle}
+use Rattle.node_parts.specs.Views.{walk_of, IsUnderWay, IsIdle}
 
 none_when : {A : Type 0} (o : Option A) → is_some o ≡ false → o ≡ None
 none_when None e = refl

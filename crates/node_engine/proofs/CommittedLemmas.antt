@@ -33,14 +33,14 @@ use Rattle.node_reads.specs.Readings.{reading_of, without_reading}
 use Rattle.node_reads.specs.ReadBy.{AllRead}
 use Rattle.node_reads.proofs.ChangeLemmas.{replayed}
 use Rattle.node_reads.proofs.KeptReads.{own_at, committed_reads}
-use Rattle.node_engine.specs.declared.notes.Note.{Note}
-use Rattle.node_engine.specs.declared.parts.Parts.{Parts}
-use Rattle.node_engine.specs.NotesView.{forgotten}
-use Rattle.node_engine.specs.Kept.{node_view, noted_as, notes_of, notes_on, IsLive, NoteFits, PartsKept}
-use Rattle.node_engine.specs.KeptReads.{ReadsKept}
+use Rattle.node_parts.specs.declared.notes.Note.{Note}
+use Rattle.node_parts.specs.declared.parts.Parts.{Parts}
+use Rattle.node_parts.specs.NotesView.{forgotten}
+use Rattle.node_parts.specs.Kept.{node_view, noted_as, notes_of, notes_on, IsLive, NoteFits, PartsKept}
+use Rattle.node_parts.specs.KeptReads.{ReadsKept}
 use Rattle.node_engine.specs.Commits.{sums_in}
-use Rattle.node_engine.specs.Answers.{IsIdle}
-use Rattle.node_engine.proofs.PlanIsLemmas.{owner_is}
+use Rattle.node_parts.specs.Views.{IsIdle}
+use Rattle.node_visits.proofs.PlanIsLemmas.{owner_is}
 
 -- notes without those of an owner
 

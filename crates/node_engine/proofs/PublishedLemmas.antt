@@ -25,10 +25,10 @@ use Rattle.node_model.proofs.CommitLemmas.{tables_left}
 use Rattle.node_reads.specs.Readings.{reading_of}
 use Rattle.node_reads.specs.ReadBy.{AllRead}
 use Rattle.node_reads.proofs.KeptReads.{stays}
-use Rattle.node_engine.specs.declared.notes.Note.{Note}
-use Rattle.node_engine.specs.declared.parts.Parts.{Parts}
-use Rattle.node_engine.specs.Kept.{node_view, notes_of, IsLive, NoteFits, PartsKept}
-use Rattle.node_engine.specs.KeptReads.{ReadsKept}
+use Rattle.node_parts.specs.declared.notes.Note.{Note}
+use Rattle.node_parts.specs.declared.parts.Parts.{Parts}
+use Rattle.node_parts.specs.Kept.{node_view, notes_of, IsLive, NoteFits, PartsKept}
+use Rattle.node_parts.specs.KeptReads.{ReadsKept}
 
 -- the entry of a publication
 abbrev pub publication : ℕ → ℕ → DigestKind → Digest → Entry

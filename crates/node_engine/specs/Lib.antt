@@ -1,16 +1,2 @@
-pub mod Written
-pub mod NotesView
-pub mod NotesParts
-pub mod Kept
-pub mod Answers
-pub mod Dues
-pub mod Cycles
-pub mod PutAll
-pub mod NextStarts
-pub mod Undone
-pub mod Fresh
-pub mod KeptReads
-pub mod ReadDues
-pub mod ReadRows
 pub mod Commits
 pub mod NodeParts

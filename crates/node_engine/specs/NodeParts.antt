@@ -1,8 +1,8 @@
 -- A node is seen as its parts are, and keeps what they do.
 use Rattle.node_model.specs.Node.{NodeView}
 use Rattle.node_engine.specs.declared.nodes.Node.TheInside.{Inside}
-use Rattle.node_engine.specs.Kept.{node_view, PartsKept}
-use Rattle.node_engine.specs.KeptReads.{ReadsKept}
+use Rattle.node_parts.specs.Kept.{node_view, PartsKept}
+use Rattle.node_parts.specs.KeptReads.{ReadsKept}
 
 abbrev pub view_of : Inside → NodeView
 view_of node = node_view node.parts

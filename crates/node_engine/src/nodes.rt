@@ -1,4 +1,4 @@
-ghost use Rattle.std.specs.Prelude.{◌≡◌, ◌↔◌, None, Some, IsSome, is_some, option_copied, option_map, length, IfOk, IfErr, OnOk, OnErr};
+ghost use Rattle.std.specs.Prelude.{◌≡◌, ◌↔◌, None, IsSome, is_some, option_copied, option_map, length, IfOk, IfErr, OnOk, OnErr};
 ghost use Rattle.checksum_table.specs.Checks.{check_at};
 ghost use Rattle.node_engine.specs.declared.publishing.MasterFault.TheVariants.{NoCheck};
 ghost use Rattle.history.specs.Replay.{fold, applied_of};
@@ -8,24 +8,23 @@ ghost use Rattle.node_model.specs.Node.{NodeView, begun, ended, committed_rows};
 ghost use Rattle.node_model.specs.Calls.{after_call, fresh_node, Visit as VisitCall, Start as StartCall, Commit as CommitCall, Publish as PublishCall};
 ghost use Rattle.std.specs.List.{AllByRecursion};
 ghost use Rattle.row_types.specs.Fit.{IsSchema, AreTables};
-ghost use Rattle.node_engine.specs.Answers.{IsUnderWay, IsIdle, IsLiveTable, walk_of, visit_answer, commit_answer};
+ghost use Rattle.node_parts.specs.Views.{IsUnderWay, IsIdle, IsLiveTable, walk_of};
+ghost use Rattle.node_engine.specs.Commits.{commit_answer};
+ghost use Rattle.node_visits.specs.Answers.{visit_answer};
 ghost use Rattle.ptc_statement.specs.Fits.{FitsSchemas};
-ghost use Rattle.node_engine.specs.ReadRows.{read_rows_of};
-ghost use Rattle.node_engine.specs.NextStarts.{next_started};
+ghost use Rattle.node_parts.specs.ReadRows.{read_rows_of};
+ghost use Rattle.node_visits.specs.NextStarts.{next_started};
 
 use crate::commits::commit_parts;
-use crate::committed_rows::committed_in;
-use crate::makes::fresh_parts;
-use crate::next_starts::{start_and_visit_parts, visit_and_start_parts};
-use crate::parts::Parts;
 use crate::publishing::{MasterFault, publish_parts};
-use crate::rollbacks::rollback_parts;
-use crate::starts::{begin_parts, start_parts};
-use crate::views::{is_under_way, live_in, read_rows_in};
-use crate::visits::{Visit, visit_parts, waits_in};
 use checksum_table::Checks;
 use lock_table::Owner;
 use node_model::Part;
+use node_parts::{
+    Parts, begin_parts, committed_in, fresh_parts, is_under_way, live_in, read_rows_in,
+    rollback_parts, start_parts,
+};
+use node_visits::{Visit, start_and_visit_parts, visit_and_start_parts, visit_parts, waits_in};
 use ordered_table::Table;
 use ptc_statement::Statement;
 use row_types::{R, Row, Rows, Schemas, Tables};

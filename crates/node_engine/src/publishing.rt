@@ -1,13 +1,13 @@
-ghost use Rattle.std.specs.Prelude.{◌≡◌, ◌↔◌, [], ◌∷◌, None, Some, IsSome, option_copied, length, IfOk, IfErr, OnOk, OnErr};
+ghost use Rattle.std.specs.Prelude.{◌≡◌, ◌↔◌, [], ◌∷◌, None, Some, IsSome, length, IfOk, IfErr, OnOk, OnErr};
 ghost use Rattle.ptc_statement.specs.declared.statements.Statement.TheVariants.{SetMaster};
 ghost use Rattle.checksum_table.specs.Checks.{check_at};
 ghost use Rattle.node_model.specs.Calls.{after_call, Publish};
-ghost use Rattle.node_engine.specs.Kept.{node_view, PartsKept};
-ghost use Rattle.node_engine.specs.KeptReads.{ReadsKept};
+ghost use Rattle.node_parts.specs.Kept.{node_view, PartsKept};
+ghost use Rattle.node_parts.specs.KeptReads.{ReadsKept};
 ghost use Rattle.node_engine.specs.declared.publishing.MasterFault.TheVariants.{NoCheck};
 
 use crate::commits::append_reserved;
-use crate::parts::Parts;
+use node_parts::Parts;
 use ptc_statement::{Statement, Statements};
 use row_types::{Digest, DigestKind, Memory, R};
 use statement_log::{Entry, Origin};

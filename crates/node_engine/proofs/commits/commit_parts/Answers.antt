@@ -1,7 +1,7 @@
 use Rattle.std.proofs.Common.{refl, ap, ◌≡◌, ℕ, List}
 use Rattle.node_reads.specs.declared.readings.Reading.{Reading}
 use Rattle.node_reads.specs.Readings.{reading_of}
-use Rattle.node_engine.specs.declared.parts.Parts.{Parts}
+use Rattle.node_parts.specs.declared.parts.Parts.{Parts}
 use Rattle.node_engine.specs.Commits.{sums_in}
 use Rattle.node_engine.proofs.CommittedLemmas.{commits, committed_view, committed_parts, commits_reads}
 use Rattle.node_engine.proofs.commits.commit_parts.Goals as goal

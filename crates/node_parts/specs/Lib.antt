@@ -1,0 +1,10 @@
+pub mod Written
+pub mod NotesView
+pub mod NotesParts
+pub mod Kept
+pub mod Views
+pub mod KeptReads
+pub mod ReadRows
+pub mod Undone
+pub mod Fresh
+pub mod PutAll

@@ -1,0 +1,9 @@
+pub mod ChangeLemmas
+pub mod PlanIsLemmas
+pub mod RoomLemmas
+pub mod VisitedLemmas
+pub mod NoteLemmas
+pub mod SettleLemmas
+pub mod GainLemmas
+pub mod CycleLemmas
+pub mod DoneLemmas
