@@ -17,6 +17,7 @@ use Rattle.node_parts.specs.NotesView.{NotesView}
 use Rattle.node_parts.specs.Kept.{node_view, IsLive, NoteFits, PartsKept, notes_of}
 use Rattle.node_visits.specs.Dues.{IsRoomier, HasRoomAt}
 use Rattle.node_parts.proofs.TableLemmas.{get_set_same, get_set_other}
+use Rattle.node_parts.proofs.FrameLemmas.{IsFrame, frame_checks, frame_applied, room_view}
 
 roomier_live : (node : NodeView) (number of : ℕ) (schema : Schema) (before after : List TableView) (notes : List Note) → IsRoomier of before after → IsLive node number schema before notes
     → IsLive node number schema after notes
