@@ -1,0 +1,10 @@
+mod PlaceLemmas
+mod QuoteLemmas
+mod EndLemmas
+mod StepLemmas
+mod NumberLemmas
+mod RangeLemmas
+mod WithinLemmas
+mod FrontLemmas
+mod ReadLemmas
+mod CountLemmas

@@ -1,0 +1,6 @@
+use Rattle.std.proofs.Common.{rules}
+use Rattle.line_items.proofs.PlaceLemmas.{length_opens}
+use Rattle.line_items.proofs.column_items.length_opens_item.Goals as goal
+
+pub returns-then-eq : goal.returns-then-eq
+returns-then-eq c = length_opens c.args.column c.args.text.now (search rules)

@@ -1,0 +1,4 @@
+pub mod Items
+pub mod Literals
+pub mod Counted
+pub mod Readings
