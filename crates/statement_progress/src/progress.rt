@@ -38,12 +38,15 @@ pub enum Progress {
     In(Inner),
 }
 
+/// Whether one literal more could be past what 32 bits count. A statement of less than 2^32 bytes has fewer values, so
+/// this costs one comparison and refuses no text.
 fn is_full(reader: &Reader) -> bool
     ensures { IsTrue result ↔ (4294967290 < length reader.now.draft.values) }
 {
     reader.draft.values.len() > 4294967290
 }
 
+/// A token more where a single one is due.
 fn at_spot(
     reader: Reader,
     alloc: Global,
@@ -97,6 +100,7 @@ fn entered(
     }
 }
 
+/// A token more where a tree is due: the tree's first.
 fn enter(
     reader: Reader,
     alloc: Global,
