@@ -1,7 +1,7 @@
 ghost use Rattle.node_parts.specs.Views.{IsIdle};
 ghost use Rattle.node_builders.specs.Asked.{When, CanStart, CanGoOn};
 
-use crate::fits::fits;
+use crate::statement_fits::fits;
 use lock_table::Owner;
 use node_engine::{Node, Visit};
 use node_model::Part;

@@ -2,9 +2,9 @@
 #![tactic(auto)]
 
 mod calls;
-mod fits;
 mod nodes;
+mod statement_fits;
 
 pub use calls::{begin, commit, start, start_and_visit, visit, visit_and_start};
-pub use fits::fits;
 pub use nodes::{empty_node, own_key_where, whole_check, whole_clear};
+pub use statement_fits::fits;
