@@ -58,4 +58,4 @@ number_fits schema column set behind found numbers is = record {
 }
 
 pub pair_is_schema : (name id value : List ℕ) → IsSchema (record { name = name; columns = pair_columns id value; key_len = 1 })
-pair_is_schema name id value = record { key = omega arith; most = omega arith; within = omega arith; lengths = (tt, tt, tt); not_null = (refl, tt) }
+pair_is_schema name id value = record { key = omega arith; most = omega arith; within = omega arith; lengths = (tt, (tt, tt)); not_null = (refl, tt) }
