@@ -102,15 +102,13 @@ fn put(alloc: Global, node: &mut Node, owner: Owner, id: i64, v: i64) -> R<Came>
     run(alloc, node, owner, Sample::Insert(id, v))
 }
 
-fn fill(alloc: Global, node: &mut Node, owner: Owner, count: i64) -> R<Came> {
+/// Commits rows (10, 1), (20, 2), .., so many.
+fn fill(alloc: Global, node: &mut Node, owner: Owner, count: u8) -> R<Came> {
     begin(alloc, node, owner, Part::Client)?;
     go(alloc, node, owner)?;
-    let mut v: i64 = 1;
-    let mut id: i64 = 10;
-    while v <= count && v < 1000 {
-        put(alloc, node, owner, id, v)?;
-        v += 1;
-        id = v * 10;
+    for number in 1..=count {
+        let v = number as i64;
+        put(alloc, node, owner, v * 10, v)?;
     }
     committed(alloc, node, owner, Origin::Session(owner.0))
 }

@@ -8,7 +8,7 @@ pub(crate) type Step = (u32, Call, Came);
 pub(crate) enum Call {
     /// Rows with the keys 10, 20 and so on and the numbers 1, 2 and so on, put in where none is and
     /// committed.
-    Fill(i64),
+    Fill(u8),
     Begin,
     /// Begins to apply the source's entry of this number.
     Apply(u64),
