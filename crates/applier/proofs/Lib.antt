@@ -1,2 +1,0 @@
-mod MoveLemmas
-mod NodeLemmas

@@ -1,3 +1,0 @@
-pub mod Appliers
-pub mod Moves
-pub mod ApplierParts

@@ -1,4 +1,0 @@
-mod NodeLemmas
-mod MoveLemmas
-mod PlaceLemmas
-pub mod StayLemmas
