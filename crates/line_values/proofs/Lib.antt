@@ -1,0 +1,4 @@
+mod RangeLemmas
+mod RowLemmas
+mod TableLemmas
+mod LineLemmas
