@@ -18,14 +18,8 @@ use Rattle.file_text.specs.Rules.{named_first, parts_in, Misfit, FitsUpTo, offse
 use Rattle.file_text.specs.Causes.{most, AllDeclared, UndeclaredWord, Undeclared, Cause, OfLimit, OfLine, OfIsolation, MisfitAt, FirstMisfits, IsRowThat, RowMisfits, IsUndeclared, Breaks, limit_order, cause_order, order, IsRefused, IsGood}
 use Rattle.file_text.specs.File.{lines_of, content, IsWhole, AreGood, Contents, contents_of, IsFile, RefusedAt, EndsAt, IsFirstFault}
 use Rattle.statement_text_laws.proofs.OneTextLemmas.{one_fault_of_text}
-use Rattle.file_laws.proofs.FitLemmas.{head_of, onto, cuts, Longer, one_misfit}
+use Rattle.file_laws.proofs.FitLemmas.{head_of, onto, some_is, none_some, true_false, cuts, Longer, one_misfit}
 use Rattle.file_laws.proofs.SaidLemmas.{one_said, one_section}
-
-some_is : {A : Type 0} (x y : A) → Some x ≡ Some y → x ≡ y
-some_is x y e = cc
-
-none_some : {A : Type 0} (o : Option A) (x : A) → o ≡ None → o ≡ Some x → ⊥
-none_some o x e f = cc
 
 -- ---- one place
 
@@ -163,7 +157,7 @@ limits_once ScheduleLimit Sessions e = absurd (omega (arith, e))
 limits_once ScheduleLimit Locals e = absurd (omega (arith, e))
 limits_once ScheduleLimit ScheduleLimit e = refl
 
-limit_small : (k : LimitKind) → limit_order k < 8
+pub limit_small : (k : LimitKind) → limit_order k < 8
 limit_small Bytes = omega arith
 limit_small LineBytes = omega arith
 limit_small Tables = omega arith
@@ -173,7 +167,7 @@ limit_small Sessions = omega arith
 limit_small Locals = omega arith
 limit_small ScheduleLimit = omega arith
 
-cause_large : (c : LineCause) → 8 ≤ cause_order c
+pub cause_large : (c : LineCause) → 8 ≤ cause_order c
 cause_large AfterEnd = omega arith
 cause_large Order = omega arith
 cause_large (Form x) = omega arith
@@ -184,7 +178,7 @@ cause_large Tool = omega arith
 cause_large Script = omega arith
 cause_large (Actor x) = omega arith
 
-not_isolation : (c : LineCause) → cause_order c ≡ 12 → ⊥
+pub not_isolation : (c : LineCause) → cause_order c ≡ 12 → ⊥
 not_isolation AfterEnd e = omega (arith, e)
 not_isolation Order e = omega (arith, e)
 not_isolation (Form x) e = omega (arith, e)
@@ -369,9 +363,6 @@ one_file bytes v w a b = a.gives ∙ ap contents_of (good_once [] (lines_of byte
 refused_file : (bytes : List ℕ) (number : ℕ) (cause : Cause) (w : Contents) → RefusedAt bytes number cause → IsFile bytes w → ⊥
 refused_file bytes number cause w r f =
     refused_not_good r.said r.line cause r.refused (next_good r.front r.line r.rest r.said f.said r.before.good (subst (λ (l : List (List ℕ)). AreGood [] l f.said) r.before.parts f.lines))
-
-true_false : (b : Bool) → b ≡ true → b ≡ false → ⊥
-true_false b e f = cc
 
 ends_file : (bytes : List ℕ) (number : ℕ) (w : Contents) → EndsAt bytes number → IsFile bytes w → ⊥
 ends_file bytes number w r f = cases r.rest r.before.parts r.cut

@@ -1,5 +1,5 @@
 -- The first part that does not fit is one, and a whole line has none.
-use Rattle.std.proofs.Common.{◌≡◌, ◌⊎◌, List, [], ◌∷◌, ◌++◌, Option, Some, None, refl, sym, ap, subst, ◌∙◌, append_assoc, append-nil, inl, inr}
+use Rattle.std.proofs.Common.{◌≡◌, ◌⊎◌, Bool, true, false, List, [], ◌∷◌, ◌++◌, Option, Some, None, refl, sym, ap, subst, ◌∙◌, append_assoc, append-nil, inl, inr}
 use Rattle.file_text.specs.Parts.{Part}
 use Rattle.file_text.specs.declared.places.Section.{Section}
 use Rattle.file_text.specs.Said.{Said, Item, IsItem, IsLineOf, Spells}
@@ -45,12 +45,31 @@ cuts (x ∷ xs) left (y ∷ ys) right e =
 
 -- ---- walks
 
-some_is : {A : Type 0} (x y : A) → Some x ≡ Some y → x ≡ y
+pub some_is : {A : Type 0} (x y : A) → Some x ≡ Some y → x ≡ y
 some_is x y e = cc
 
-bound_some : (o : Option Spot) (f : Spot → Option Spot) (z : Spot) → bound o f ≡ Some z → (s : Spot) × (o ≡ Some s) × (f s ≡ Some z)
+pub none_some : {A : Type 0} (o : Option A) (x : A) → o ≡ None → o ≡ Some x → ⊥
+none_some o x e f = cc
+
+pub true_false : (b : Bool) → b ≡ true → b ≡ false → ⊥
+true_false b e f = cc
+
+pub bound_some : (o : Option Spot) (f : Spot → Option Spot) (z : Spot) → bound o f ≡ Some z → (s : Spot) × (o ≡ Some s) × (f s ≡ Some z)
 bound_some None f z e = cc
 bound_some (Some s) f z e = (s, refl, e)
+
+pub walk_on : (spot mid z : Spot) (xs ys : List Item) → walked spot xs ≡ Some mid → walked mid ys ≡ Some z → walked spot (xs ++ ys) ≡ Some z
+walk_on spot mid z [] ys e f = ap (λ (s : Spot). walked s ys) (some_is spot mid e) ∙ f
+walk_on spot mid z (x ∷ xs) ys e f =
+    let b = bound_some (moved spot x) (λ next. walked next xs) mid e in
+    ap (λ (p : Option Spot). bound p (λ next. walked next (xs ++ ys))) b.1 ∙ walk_on b.0 mid z xs ys b.2 f
+
+pub one_step : (spot next : Spot) (item : Item) → moved spot item ≡ Some next → walked spot (item ∷ []) ≡ Some next
+one_step spot next item e = ap (λ (p : Option Spot). bound p (λ n. walked n [])) e
+
+pub range_push : (before : List Said) (acc front : List Item) (item : Item) → InRange before acc front → misplaced before (acc ++ front) item ≡ None → InRange before acc (front ++ item ∷ [])
+range_push before acc [] item r e = (subst (λ (l : List Item). misplaced before l item ≡ None) (append-nil acc) e, tt)
+range_push before acc (x ∷ front) item r e = (r.0, range_push before (acc ++ x ∷ []) front item r.1 (subst (λ (l : List Item). misplaced before l item ≡ None) (sym (append_assoc acc (x ∷ []) front)) e))
 
 pub record Front (spot : Spot) (xs ys : List Item) (z : Spot) : Type 0 where
   pub mid : Spot
@@ -111,7 +130,7 @@ spells_split (i ∷ items) (x ∷ xs) ys h =
     let r = spells_split items xs ys h.1 in
     record { first = i ∷ r.first; second = r.second; are = ap (λ (l : List Item). i ∷ l) r.are; of_first = (h.0, r.of_first); of_second = r.of_second }
 
-begins_front : (section : Section) (a b : List Item) → MayBegin section (a ++ b) → MayBegin section a
+pub begins_front : (section : Section) (a b : List Item) → MayBegin section (a ++ b) → MayBegin section a
 begins_front section a b m = record { back = b ++ m.back; line = subst (IsLineOf section) (append_assoc a b m.back) m.line }
 
 -- the item at the place where another reading stopped
@@ -123,23 +142,20 @@ one_next section front i j fitting part m n s h k =
     last_of [] i j e = head_of i j [] [] e
     last_of (x ∷ xs) i j e = last_of xs i j (tail_of x x (xs ++ i ∷ []) (xs ++ j ∷ []) e)
 
-range_at : (before : List Said) (acc front : List Item) (item : Item) (more : List Item) → InRange before acc (front ++ item ∷ more) → misplaced before (acc ++ front) item ≡ None
+pub range_at : (before : List Said) (acc front : List Item) (item : Item) (more : List Item) → InRange before acc (front ++ item ∷ more) → misplaced before (acc ++ front) item ≡ None
 range_at before acc [] item more r = subst (λ (l : List Item). misplaced before l item ≡ None) (sym (append-nil acc)) r.0
 range_at before acc (x ∷ front) item more r = subst (λ (l : List Item). misplaced before l item ≡ None) (append_assoc acc (x ∷ []) front) (range_at before (acc ++ x ∷ []) front item more r.1)
 
 -- where a reading stops, no longer one goes on
-goes_no_further : (section : Section) (before : List Said) (fitting left : List Part) (misfit : Misfit) (front : List Item) (part : Part) (more : List Part) (items : List Item)
+pub goes_no_further : (section : Section) (before : List Said) (fitting left : List Part) (misfit : Misfit) (front : List Item) (part : Part) (more : List Part) (items : List Item)
     → Begins section before fitting front → Misses section before front left misfit → left ≡ part ∷ more → MayBegin section items → InRange before [] items → (rest : List Part) → Spells items (fitting ++ part ∷ rest) → ⊥
 goes_no_further section before fitting left misfit front part more items b m l begin range rest s =
     by_split (spells_split items fitting (part ∷ rest) s)
   where
-    none_some : (digit : Digit) (o : Option Digit) → o ≡ None → o ≡ Some digit → ⊥
-    none_some digit o e f = cc
-
     cases : (misfit : Misfit) (item : Item) → MayBegin section (front ++ item ∷ []) → misplaced before front item ≡ None → IsItem item part.text → Misses section before front (part ∷ more) misfit → ⊥
     cases Missing item may in_range h m = m
     cases Unfit item may in_range h m = m item may h
-    cases (Misplaced digit) item may in_range h m = none_some digit (misplaced before front item) in_range (subst (λ (i : Item). misplaced before front i ≡ Some digit) (one_next section front m.0 item fitting part m.1 may b.spelled m.2 h) m.3)
+    cases (Misplaced digit) item may in_range h m = none_some (misplaced before front item) digit in_range (subst (λ (i : Item). misplaced before front i ≡ Some digit) (one_next section front m.0 item fitting part m.1 may b.spelled m.2 h) m.3)
 
     at_item : (item : Item) (others : List Item) → items ≡ front ++ item ∷ others → IsItem item part.text → ⊥
     at_item item others e h =

@@ -11,7 +11,7 @@ use Rattle.file_text.specs.Said.{Said, Skipped, Header, Isolation, Replicas, Tab
 use Rattle.file_text.specs.Context.{schemas_of, in_script}
 use Rattle.file_text.specs.Rules.{is_skipped, named_first, Opens, OpensNone, parts_in, MayBegin, word_step, IsStep, IsWritten, Says}
 use Rattle.statement_text_laws.proofs.OneTextLemmas.{one_statement_of_text}
-use Rattle.file_laws.proofs.FitLemmas.{tail_of, head_of, onto, one_front}
+use Rattle.file_laws.proofs.FitLemmas.{tail_of, head_of, onto, some_is, none_some, true_false, one_front}
 
 -- ---- the items tell what is said
 
@@ -269,9 +269,6 @@ said_once section End End p q e = refl
 
 -- ---- the line tells it too
 
-some_is : {A : Type 0} (x y : A) → Some x ≡ Some y → x ≡ y
-some_is x y e = cc
-
 pub one_section : (s t : Section) (line : List ℕ) → Opens s line → Opens t line → s ≡ t
 one_section s t line h k = some_is s t (sym h.first ∙ k.first)
 
@@ -309,12 +306,6 @@ view before line (StepOf st) h = IsOfStep st refl h
 view before line (Schedule ws) h = IsOfSection h
 view before line End h = IsOfSection h
 
-no_both : (b : Bool) → b ≡ true → b ≡ false → ⊥
-no_both b e f = cc
-
-none_some : {A : Type 0} (o : Option A) (x : A) → o ≡ None → o ≡ Some x → ⊥
-none_some o x e f = cc
-
 steps_once : (before : List Said) (line : List ℕ) (a b : ScriptStep) → IsStep before line a → IsStep before line b → a ≡ b
 steps_once before line Begin Begin h k = some_is Begin Begin (sym h ∙ k)
 steps_once before line Begin Commit h k = some_is Begin Commit (sym h ∙ k)
@@ -338,12 +329,12 @@ one_said before line a b h k = cases (view before line a h) (view before line b 
   where
     cases : View before line a → View before line b → a ≡ b
     cases (IsSkip e h) (IsSkip f k) = e ∙ sym f
-    cases (IsSkip e h) (IsOfStep t f k) = absurd (no_both (is_skipped line) h k.0.counts)
-    cases (IsSkip e h) (IsOfSection k) = absurd (no_both (is_skipped line) h k.1.opens.counts)
-    cases (IsOfStep s e h) (IsSkip f k) = absurd (no_both (is_skipped line) k h.0.counts)
+    cases (IsSkip e h) (IsOfStep t f k) = absurd (true_false (is_skipped line) h k.0.counts)
+    cases (IsSkip e h) (IsOfSection k) = absurd (true_false (is_skipped line) h k.1.opens.counts)
+    cases (IsOfStep s e h) (IsSkip f k) = absurd (true_false (is_skipped line) k h.0.counts)
     cases (IsOfStep s e h) (IsOfStep t f k) = e ∙ ap StepOf (steps_once before line s t h.2 k.2) ∙ sym f
     cases (IsOfStep s e h) (IsOfSection k) = absurd (none_some (named_first (words_of line)) k.0 h.0.none k.1.opens.first)
-    cases (IsOfSection h) (IsSkip f k) = absurd (no_both (is_skipped line) k h.1.opens.counts)
+    cases (IsOfSection h) (IsSkip f k) = absurd (true_false (is_skipped line) k h.1.opens.counts)
     cases (IsOfSection h) (IsOfStep t f k) = absurd (none_some (named_first (words_of line)) h.0 k.0.none h.1.opens.first)
     cases (IsOfSection h) (IsOfSection k) =
         let e = one_section h.0 k.0 line h.1.opens k.1.opens in

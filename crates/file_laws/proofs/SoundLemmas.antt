@@ -19,6 +19,7 @@ use Rattle.file_text.specs.Spots.{first_spot, next_column, when, ends_column, ma
 use Rattle.file_text.specs.Rules.{MayBegin}
 use Rattle.file_laws.specs.Laws.{WalksThrough}
 use Rattle.file_laws.proofs.WalkLemmas.{TakesMark}
+use Rattle.file_laws.proofs.FitLemmas.{some_is, bound_some, walk_on}
 
 -- columns from this one on, each with a mark that it may have
 abbrev pub Marked : ColumnSpot → List ColumnText → Type 0
@@ -105,13 +106,6 @@ on i xs ys e = ap (λ (l : List Item). i ∷ l) e
 when_some : {A : Type 0} (b : Bool) (a y : A) → when b a ≡ Some y → (b ≡ true) × (a ≡ y)
 when_some true a y e = (refl, cc)
 when_some false a y e = cc
-
-some_is : {A : Type 0} (x y : A) → Some x ≡ Some y → x ≡ y
-some_is x y e = cc
-
-bound_some : (o : Option Spot) (f : Spot → Option Spot) (z : Spot) → bound o f ≡ Some z → (s : Spot) × (o ≡ Some s) × (f s ≡ Some z)
-bound_some None f z e = cc
-bound_some (Some s) f z e = (s, refl, e)
 
 -- behind a column comes a comma and a column, or the bracket and nothing
 data Ends (column : ColumnSpot) (item : Item) (spot : Spot) : Type 0 where
@@ -318,15 +312,6 @@ ends (LengthCloses FurtherColumn) = (Sign 41 ∷ Sign 41 ∷ [], way _ _ refl)
 ends (MarkDue FurtherColumn) = (Sign 41 ∷ [], way _ _ refl)
 ends (NullDue FurtherColumn) = (Word NullKeyword ∷ Sign 41 ∷ [], way _ _ refl)
 ends (CommaDue FurtherColumn) = (Sign 41 ∷ [], way _ _ refl)
-
-bound_is : (o : Option Spot) (f : Spot → Option Spot) (s z : Spot) → o ≡ Some s → f s ≡ Some z → bound o f ≡ Some z
-bound_is o f s z e g = ap (λ (p : Option Spot). bound p f) e ∙ g
-
-walk_on : (spot mid z : Spot) (xs ys : List Item) → walked spot xs ≡ Some mid → walked mid ys ≡ Some z → walked spot (xs ++ ys) ≡ Some z
-walk_on spot mid z [] ys e f = ap (λ (s : Spot). walked s ys) (some_is spot mid e) ∙ f
-walk_on spot mid z (x ∷ xs) ys e f =
-    let b = bound_some (moved spot x) (λ next. walked next xs) mid e in
-    bound_is (moved spot x) (λ next. walked next (xs ++ ys)) b.0 z b.1 (walk_on b.0 mid z xs ys b.2 f)
 
 pub lives : (section : Section) (front : List Item) (spot : Spot) → walked (SectionDue section) front ≡ Some spot → MayBegin section front
 lives section front spot e =

@@ -10,27 +10,7 @@ use Rattle.file_text.specs.Spots.{moved, bound, walked, may_end}
 use Rattle.file_laws.specs.Laws.{Told, TheItem, NoItem, Tells, Decided, Whole, Fails}
 use Rattle.file_laws.proofs.WalkLemmas.{complete}
 use Rattle.file_laws.proofs.SoundLemmas.{sound, lives}
-use Rattle.file_laws.proofs.FitLemmas.{walk_front, walks, spells_append}
-
-some_is : {A : Type 0} (x y : A) → Some x ≡ Some y → x ≡ y
-some_is x y e = cc
-
-bound_some : (o : Option Spot) (f : Spot → Option Spot) (z : Spot) → bound o f ≡ Some z → (s : Spot) × (o ≡ Some s) × (f s ≡ Some z)
-bound_some None f z e = cc
-bound_some (Some s) f z e = (s, refl, e)
-
-walk_on : (spot mid z : Spot) (xs ys : List Item) → walked spot xs ≡ Some mid → walked mid ys ≡ Some z → walked spot (xs ++ ys) ≡ Some z
-walk_on spot mid z [] ys e f = ap (λ (s : Spot). walked s ys) (some_is spot mid e) ∙ f
-walk_on spot mid z (x ∷ xs) ys e f =
-    let b = bound_some (moved spot x) (λ next. walked next xs) mid e in
-    ap (λ (p : Option Spot). bound p (λ next. walked next (xs ++ ys))) b.1 ∙ walk_on b.0 mid z xs ys b.2 f
-
-one_step : (spot next : Spot) (item : Item) → moved spot item ≡ Some next → walked spot (item ∷ []) ≡ Some next
-one_step spot next item e = ap (λ (p : Option Spot). bound p (λ n. walked n [])) e
-
-range_push : (before : List Said) (acc front : List Item) (item : Item) → InRange before acc front → misplaced before (acc ++ front) item ≡ None → InRange before acc (front ++ item ∷ [])
-range_push before acc [] item r e = (subst (λ (l : List Item). misplaced before l item ≡ None) (append-nil acc) e, tt)
-range_push before acc (x ∷ front) item r e = (r.0, range_push before (acc ++ x ∷ []) front item r.1 (subst (λ (l : List Item). misplaced before l item ≡ None) (sym (append_assoc acc (x ∷ []) front)) e))
+use Rattle.file_laws.proofs.FitLemmas.{some_is, true_false, bound_some, one_step, walk_on, range_push, walk_front, walks, spells_append}
 
 -- what is read so far
 record Read (section : Section) (before : List Said) (parts fitting left : List Part) : Type 0 where
@@ -46,9 +26,6 @@ begins section before parts fitting left r = record { may = lives section r.fron
 
 fails : (section : Section) (before : List Said) (parts fitting left : List Part) (misfit : Misfit) → (r : Read section before parts fitting left) → Misses section before r.front left misfit → Decided section before parts
 fails section before parts fitting left misfit r m = Fails fitting left misfit (record { are = r.are; front = r.front; begins = begins section before parts fitting left r; misses = m })
-
-true_false : (b : Bool) → b ≡ true → b ≡ false → ⊥
-true_false b e f = cc
 
 at_end : (section : Section) (before : List Said) (parts fitting : List Part) → Read section before parts fitting [] → Decided section before parts
 at_end section before parts fitting r = by_end (may_end r.spot) refl

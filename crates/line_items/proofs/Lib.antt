@@ -5,6 +5,5 @@ mod StepLemmas
 mod NumberLemmas
 mod RangeLemmas
 mod WithinLemmas
-mod FrontLemmas
 mod ReadLemmas
 mod CountLemmas

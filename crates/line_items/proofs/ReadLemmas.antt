@@ -14,8 +14,7 @@ use Rattle.file_text.specs.Causes.{PassesAt, limits}
 use Rattle.file_text.specs.Spots.{moved, bound, walked, may_end}
 use Rattle.file_laws.proofs.WalkLemmas.{complete}
 use Rattle.file_laws.proofs.SoundLemmas.{sound, lives}
-use Rattle.file_laws.proofs.FitLemmas.{walk_front, walks, spells_append, spells_split, one_front, cuts, Longer, Split}
-use Rattle.line_items.proofs.FrontLemmas.{bound_some, walk_on, one_step, range_push, begins_front, goes_no_further}
+use Rattle.file_laws.proofs.FitLemmas.{some_is, true_false, bound_some, walk_on, one_step, range_push, begins_front, goes_no_further, walk_front, walks, spells_append, spells_split, one_front, cuts, Longer, Split}
 use Rattle.line_parts.specs.declared.cuttings.Cutting.{Cutting}
 use Rattle.line_parts.specs.Cuts.{parts_from, NextPart}
 use Rattle.line_items.specs.declared.counts.Counts.{Counts}
@@ -110,12 +109,6 @@ starts section before parts walk s = record {
   tally = subst (λ (t : Tally). IsTally t []) (sym s.tally) (record { turns = refl; names = refl; minus = refl });
 }
 
-true_false : (b : Bool) → b ≡ true → b ≡ false → ⊥
-true_false b e f = cc
-
-some_spot : (x y : Spot) → Some x ≡ Some y → x ≡ y
-some_spot x y e = cc
-
 whole_at : (section : Section) (before : List Said) (line : List ℕ) (walk : Walk) → IsRead section before (parts_in section line) [] walk → may_end walk.spot ≡ true → IsWholeLine section before (parts_in section line) walk.items.items
 whole_at section before line walk r e = record {
   items = r.front;
@@ -137,7 +130,7 @@ missing_at section before line walk r e = record {
     begins = begins_of section before (parts_in section line) [] walk r;
     misses = λ l.
         let c = complete section r.front l in
-        true_false (may_end walk.spot) (ap may_end (some_spot walk.spot c.end (sym r.walked_to ∙ c.walks)) ∙ c.ends) e;
+        true_false (may_end walk.spot) (ap may_end (some_is walk.spot c.end (sym r.walked_to ∙ c.walks)) ∙ c.ends) e;
   };
   is = plus_none (past_end line);
   under = under_here section before (parts_in section line) [] walk Missing r (λ part more f. absurd (no_part part more f));
@@ -238,7 +231,7 @@ unfit_fails section before parts left part old r none =
     (λ item may is.
     let w = walks section (r.front ++ item ∷ []) may in
     let f = walk_front (SectionDue section) r.front (item ∷ []) w.0 w.1 in
-    let s : f.mid ≡ old.spot = some_spot f.mid old.spot (sym f.first ∙ r.walked_to) in
+    let s : f.mid ≡ old.spot = some_is f.mid old.spot (sym f.first ∙ r.walked_to) in
     let b = bound_some (moved f.mid item) (λ n. walked n []) w.0 f.rest in
     none item b.0 (ap (λ (x : Spot). moved x item) (sym s) ∙ b.1) is)
     refl

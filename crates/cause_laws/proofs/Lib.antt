@@ -1,0 +1,5 @@
+pub mod ClearLemmas
+pub mod LimitLemmas
+pub mod LineLemmas
+pub mod SaidLemmas
+pub mod StepLemmas

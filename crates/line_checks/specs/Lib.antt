@@ -1,0 +1,3 @@
+pub mod Faults
+pub mod MarksOf
+pub mod Checked
