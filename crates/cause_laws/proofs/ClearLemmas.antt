@@ -1,18 +1,11 @@
 -- Rules that are not broken, one more after the other.
-use Rattle.std.proofs.Common.{◌≡◌, ◌⊎◌, ◌<◌, ◌≤◌, ◌+◌, ℕ, zero, suc, Bool, true, false, List, [], ◌∷◌, ◌++◌, map, length, Option, Some, None, refl, sym, ap, subst, ◌∙◌, append_assoc, append-nil, arith, inl, inr, leb, leb-true, leb-false}
+use Rattle.std.proofs.Common.{◌≡◌, ℕ, suc, Bool, true, false, List, refl, arith, leb, leb-true, leb-false}
 use Rattle.row_types.specs.declared.row_faults.RowFault.{RowFault}
 use Rattle.statement_grammar.specs.declared.text_faults.TextFault.{TextFault}
 use Rattle.file_text.specs.declared.faults.LimitKind.{LimitKind}
-use Rattle.file_text.specs.declared.faults.LimitKind.TheVariants.{Bytes, LineBytes, Tables, Columns, Replicas as ReplicaLimit, Sessions, Locals, Schedule as ScheduleLimit}
-use Rattle.file_text.specs.declared.faults.LineCause.{LineCause}
 use Rattle.file_text.specs.declared.faults.LineCause.TheVariants.{AfterEnd, Order, Form, Twice, Row as RowCause, Statement as StatementCause, Tool, Script, Actor}
-use Rattle.file_text.specs.Parts.{Part, words_of, trimmed, past_end, place_of}
-use Rattle.file_text.specs.declared.places.Section.{Section}
-use Rattle.file_text.specs.declared.places.Section.TheVariants.{PtcLines, IsolationLines, ReplicaLines, TableLines, RowLines, SessionLines, LocalLines, ScheduleLines, EndLines}
-use Rattle.file_text.specs.Said.{Said, Skipped, Header, Isolation, Replicas, TableOf, RowOf, SessionOf, LocalOf, StepOf, Schedule, End, section_of}
-use Rattle.file_text.specs.Context.{schemas_of, sessions_in, is_ended, in_script}
-use Rattle.file_text.specs.Rules.{is_skipped, named_first, Opens, OpensNone, parts_in, Says, word_step}
-use Rattle.file_text.specs.Causes.{limits, Passes, tables_in, IsOver, IsInOrder, Cause, OfLimit, OfLine, OfIsolation, MisfitAt, FirstMisfits, SaysWrong, IsSaidAgain, IsOtherLevel, IsRowThat, RowMisfits, IsTool, BreaksScript, IsUndeclared, Undeclared, StatementMisfits, OutOfOrder, Breaks, limit_order, cause_order, order, IsRefused, IsGood}
+use Rattle.file_text.specs.Said.{Said}
+use Rattle.file_text.specs.Causes.{IsOver, Cause, OfLimit, OfLine, OfIsolation, Breaks, order}
 use Rattle.file_laws.proofs.CauseLemmas.{limit_small, cause_large, not_isolation}
 use Rattle.cause_laws.specs.Clear.{Clear}
 

@@ -1,22 +1,15 @@
 -- A line of a section, by what it says.
-use Rattle.std.proofs.Common.{◌≡◌, ◌⊎◌, ◌<◌, ◌≤◌, ◌+◌, ℕ, zero, suc, Bool, true, false, List, [], ◌∷◌, ◌++◌, map, length, Option, Some, None, refl, sym, ap, subst, ◌∙◌, append_assoc, append-nil, arith, inl, inr, leb, leb-true, leb-false}
-use Rattle.row_types.specs.declared.row_faults.RowFault.{RowFault}
-use Rattle.statement_grammar.specs.declared.text_faults.TextFault.{TextFault}
-use Rattle.file_text.specs.declared.faults.LimitKind.{LimitKind}
-use Rattle.file_text.specs.declared.faults.LimitKind.TheVariants.{Bytes, LineBytes, Tables, Columns, Replicas as ReplicaLimit, Sessions, Locals, Schedule as ScheduleLimit}
-use Rattle.file_text.specs.declared.faults.LineCause.{LineCause}
+use Rattle.std.proofs.Common.{◌≡◌, ◌<◌, ℕ, List, Some, refl, sym, subst, arith}
 use Rattle.file_text.specs.declared.faults.LineCause.TheVariants.{AfterEnd, Order, Form, Twice, Row as RowCause, Statement as StatementCause, Tool, Script, Actor}
-use Rattle.file_text.specs.Parts.{Part, words_of, trimmed, past_end, place_of}
+use Rattle.file_text.specs.Parts.{words_of}
 use Rattle.file_text.specs.declared.places.Section.{Section}
-use Rattle.file_text.specs.declared.places.Section.TheVariants.{PtcLines, IsolationLines, ReplicaLines, TableLines, RowLines, SessionLines, LocalLines, ScheduleLines, EndLines}
-use Rattle.file_text.specs.Said.{Said, Skipped, Header, Isolation, Replicas, TableOf, RowOf, SessionOf, LocalOf, StepOf, Schedule, End, section_of}
-use Rattle.file_text.specs.Context.{schemas_of, sessions_in, is_ended, in_script}
-use Rattle.file_text.specs.Rules.{is_skipped, named_first, Opens, OpensNone, parts_in, Says, word_step}
-use Rattle.file_text.specs.Causes.{limits, Passes, tables_in, IsOver, IsInOrder, Cause, OfLimit, OfLine, OfIsolation, MisfitAt, FirstMisfits, SaysWrong, IsSaidAgain, IsOtherLevel, IsRowThat, RowMisfits, IsTool, BreaksScript, IsUndeclared, Undeclared, StatementMisfits, OutOfOrder, Breaks, limit_order, cause_order, order, IsRefused, IsGood}
-use Rattle.file_laws.proofs.FitLemmas.{some_is, none_some, true_false}
-use Rattle.file_laws.proofs.SaidLemmas.{one_section, one_said}
+use Rattle.file_text.specs.Said.{Said, StepOf, section_of}
+use Rattle.file_text.specs.Rules.{named_first, Opens, Says}
+use Rattle.file_text.specs.Causes.{Cause, OfLimit, OfLine, OfIsolation, SaysWrong, IsSaidAgain, IsOtherLevel, IsRowThat, RowMisfits, IsTool, BreaksScript, Undeclared, order, IsRefused, IsGood}
+use Rattle.file_laws.proofs.FitLemmas.{none_some}
+use Rattle.file_laws.proofs.SaidLemmas.{one_said}
 use Rattle.file_laws.proofs.CauseLemmas.{limit_small}
-use Rattle.cause_laws.specs.Clear.{Clear, NotAgain, NoOtherLevel, MisfitsRow, RowFits, KeepsScript, NamesDeclared, NoneBroken, FirstBroken, IsTwice, IsLevel, IsRow, IsScript, IsActor}
+use Rattle.cause_laws.specs.Clear.{Clear, NotAgain, NoOtherLevel, RowFits, KeepsScript, NamesDeclared, IsTwice, IsLevel, IsRow, IsScript, IsActor}
 use Rattle.cause_laws.specs.Laws.{GoodLine, RefusedLine}
 use Rattle.cause_laws.proofs.ClearLemmas.{clear_twice, clear_isolation, clear_row, clear_statement, clear_tool, clear_script, clear_actor}
 

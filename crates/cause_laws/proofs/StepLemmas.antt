@@ -1,27 +1,22 @@
 -- Lines that open no section: statements and the words of scripts.
-use Rattle.std.proofs.Common.{◌≡◌, ◌⊎◌, ◌<◌, ◌≤◌, ◌+◌, ℕ, zero, suc, Bool, true, false, List, [], ◌∷◌, ◌++◌, map, length, Option, Some, None, refl, sym, ap, subst, ◌∙◌, append_assoc, append-nil, arith, inl, inr, leb, leb-true, leb-false}
-use Rattle.row_types.specs.declared.row_faults.RowFault.{RowFault}
+use Rattle.std.proofs.Common.{◌≡◌, ◌⊎◌, ℕ, true, false, List, Some, None, refl, subst, inl, inr}
 use Rattle.statement_grammar.specs.declared.text_faults.TextFault.{TextFault}
-use Rattle.file_text.specs.declared.faults.LimitKind.{LimitKind}
-use Rattle.file_text.specs.declared.faults.LimitKind.TheVariants.{Bytes, LineBytes, Tables, Columns, Replicas as ReplicaLimit, Sessions, Locals, Schedule as ScheduleLimit}
-use Rattle.file_text.specs.declared.faults.LineCause.{LineCause}
-use Rattle.file_text.specs.declared.faults.LineCause.TheVariants.{AfterEnd, Order, Form, Twice, Row as RowCause, Statement as StatementCause, Tool, Script, Actor}
-use Rattle.file_text.specs.Parts.{Part, words_of, trimmed, past_end, place_of}
+use Rattle.file_text.specs.declared.faults.LineCause.TheVariants.{Form, Statement as StatementCause, Tool, Script}
+use Rattle.file_text.specs.Parts.{words_of, trimmed, past_end}
 use Rattle.file_text.specs.declared.places.Section.{Section}
-use Rattle.file_text.specs.declared.places.Section.TheVariants.{PtcLines, IsolationLines, ReplicaLines, TableLines, RowLines, SessionLines, LocalLines, ScheduleLines, EndLines}
-use Rattle.file_text.specs.Said.{Said, Skipped, Header, Isolation, Replicas, TableOf, RowOf, SessionOf, LocalOf, StepOf, Schedule, End, section_of}
-use Rattle.file_text.specs.Context.{schemas_of, sessions_in, is_ended, in_script}
-use Rattle.file_text.specs.Rules.{is_skipped, named_first, Opens, OpensNone, parts_in, Says, word_step}
-use Rattle.file_text.specs.Causes.{limits, Passes, tables_in, IsOver, IsInOrder, Cause, OfLimit, OfLine, OfIsolation, MisfitAt, FirstMisfits, SaysWrong, IsSaidAgain, IsOtherLevel, IsRowThat, RowMisfits, IsTool, BreaksScript, IsUndeclared, Undeclared, StatementMisfits, OutOfOrder, Breaks, limit_order, cause_order, order, IsRefused, IsGood}
+use Rattle.file_text.specs.Said.{Said, StepOf, section_of}
+use Rattle.file_text.specs.Context.{schemas_of, in_script}
+use Rattle.file_text.specs.Rules.{is_skipped, named_first, Opens, OpensNone, Says, word_step}
+use Rattle.file_text.specs.Causes.{OfLine, MisfitAt, FirstMisfits, SaysWrong, IsSaidAgain, IsOtherLevel, IsRowThat, RowMisfits, IsTool, BreaksScript, IsUndeclared, StatementMisfits, IsRefused, IsGood}
 use Rattle.ptc_statement.specs.declared.scripts.ScriptStep.{ScriptStep}
 use Rattle.ptc_statement.specs.declared.scripts.ScriptStep.TheVariants.{Begin, Commit, Rollback, Run}
 use Rattle.ptc_statement.specs.declared.statements.Statement.{Statement}
 use Rattle.ptc_statement.specs.Fits.{IsClients}
-use Rattle.statement_grammar.specs.FirstFault.{IsText, IsFirstFault as IsStatementFault}
+use Rattle.statement_grammar.specs.FirstFault.{IsFirstFault as IsStatementFault}
 use Rattle.statement_text_laws.proofs.OneTextLemmas.{never_both_of_text}
 use Rattle.file_text.specs.Parts.{past_end}
 use Rattle.file_text.specs.Rules.{next_place, IsStep}
-use Rattle.file_laws.proofs.FitLemmas.{some_is, none_some, true_false}
+use Rattle.file_laws.proofs.FitLemmas.{none_some, true_false}
 use Rattle.file_laws.proofs.SaidLemmas.{one_said, view, View, IsSkip, IsOfStep, IsOfSection}
 use Rattle.cause_laws.specs.Clear.{Clear, KeepsScript}
 use Rattle.cause_laws.proofs.ClearLemmas.{clear_order, clear_form, clear_twice, clear_isolation, clear_row, clear_statement, clear_tool, clear_actor}

@@ -1,11 +1,11 @@
 -- Which rules a line breaks, looked at in the order of the causes.
-use Rattle.std.specs.Prelude.{◌≡◌, ◌<◌, ℕ, suc, List, Some}
+use Rattle.std.specs.Prelude.{◌≡◌, ◌<◌, ℕ, suc, List}
 use Rattle.row_types.specs.declared.row_faults.RowFault.{RowFault}
 use Rattle.file_text.specs.declared.faults.LineCause.TheVariants.{Twice, Row as RowCause, Script, Actor}
 use Rattle.file_text.specs.Parts.{past_end, place_of}
 use Rattle.file_text.specs.declared.places.Section.{Section}
-use Rattle.file_text.specs.Said.{Said, section_of}
-use Rattle.file_text.specs.Rules.{parts_in, Says}
+use Rattle.file_text.specs.Said.{Said}
+use Rattle.file_text.specs.Rules.{parts_in}
 use Rattle.file_text.specs.Causes.{Cause, OfLine, OfIsolation, order, Breaks, IsSaidAgain, IsOtherLevel, IsRowThat, RowMisfits, BreaksScript, Undeclared}
 
 -- no rule of a cause before this place in their order is broken

@@ -1,5 +1,5 @@
 -- What is walked to its end is a line, and what is walked can be led to an end.
-use Rattle.std.proofs.Common.{◌≡◌, ℕ, Bool, true, false, cond, List, [], ◌∷◌, ◌++◌, map, Option, Some, None, refl, sym, ap, subst, ◌∙◌, append_assoc}
+use Rattle.std.proofs.Common.{◌≡◌, ℕ, Bool, true, false, cond, List, [], ◌∷◌, ◌++◌, map, Some, refl, sym, ap, subst, ◌∙◌, append_assoc}
 use Rattle.std.specs.Prelude.{◌==◌}
 use Rattle.std.specs.Bool.{⊤}
 use Rattle.std.specs.List.{AllByRecursion}
@@ -15,7 +15,7 @@ use Rattle.file_text.specs.declared.places.ColumnSpot.{ColumnSpot}
 use Rattle.file_text.specs.declared.places.ColumnSpot.TheVariants.{FirstColumn, SecondColumn, FurtherColumn}
 use Rattle.file_text.specs.declared.places.Spot.{Spot}
 use Rattle.file_text.specs.declared.places.Spot.TheVariants.{SectionDue, WorkloadDue, VersionDue, LevelDue, ReadDue, CommittedDue, CountDue, TableDue, ColumnsDue, ColumnDue, KindDue, LengthOpens, LengthDue, LengthCloses, MarkDue, NullDue, CommaDue, NodeDue, RowTableDue, RowOpens, LiteralDue, DigitsDue, LiteralEnds, SessionDue, LocalDue, TurnsDue, NothingDue}
-use Rattle.file_text.specs.Spots.{first_spot, next_column, when, ends_column, marked, moved, bound, walked, may_end}
+use Rattle.file_text.specs.Spots.{first_spot, next_column, when, ends_column, marked, moved, walked, may_end}
 use Rattle.file_text.specs.Rules.{MayBegin}
 use Rattle.file_laws.specs.Laws.{WalksThrough}
 use Rattle.file_laws.proofs.WalkLemmas.{TakesMark}

@@ -6,7 +6,7 @@ use Rattle.file_text.specs.Said.{Said, Item, Spells}
 use Rattle.file_text.specs.Rules.{Digit, misplaced, InRange, Begins, Misfit, Missing, Unfit, Misplaced, Misses}
 use Rattle.file_text.specs.declared.places.Spot.{Spot}
 use Rattle.file_text.specs.declared.places.Spot.TheVariants.{SectionDue}
-use Rattle.file_text.specs.Spots.{moved, bound, walked, may_end}
+use Rattle.file_text.specs.Spots.{moved, walked, may_end}
 use Rattle.file_laws.specs.Laws.{Told, TheItem, NoItem, Tells, Decided, Whole, Fails}
 use Rattle.file_laws.proofs.WalkLemmas.{complete}
 use Rattle.file_laws.proofs.SoundLemmas.{sound, lives}

@@ -1,32 +1,29 @@
 -- The limits, the order and the form of a line, from its marks and its reading.
-use Rattle.std.proofs.Common.{◌≡◌, ◌<◌, ◌≤◌, ℕ, suc, Bool, true, false, List, [], ◌∷◌, length, Option, Some, None, refl, sym, ap, subst, ◌∙◌, arith, leb, leb-true, leb-false}
-use Rattle.file_text.specs.declared.faults.LimitKind.{LimitKind}
+use Rattle.std.proofs.Common.{◌≡◌, ◌<◌, ◌≤◌, ℕ, Bool, true, false, List, length, Option, Some, None, refl, sym, subst, ◌∙◌, leb, leb-true, leb-false}
 use Rattle.file_text.specs.declared.faults.LimitKind.TheVariants.{LineBytes, Tables, Sessions}
-use Rattle.file_text.specs.declared.faults.LineCause.{LineCause}
 use Rattle.file_text.specs.declared.faults.LineCause.TheVariants.{AfterEnd, Order, Form}
 use Rattle.file_text.specs.declared.places.Section.{Section}
-use Rattle.file_text.specs.declared.places.Section.TheVariants.{PtcLines, IsolationLines, ReplicaLines, TableLines, RowLines, SessionLines, LocalLines, ScheduleLines, EndLines}
+use Rattle.file_text.specs.declared.places.Section.TheVariants.{TableLines, SessionLines}
 use Rattle.file_text.specs.Said.{Said}
 use Rattle.file_text.specs.Context.{sessions_in, is_ended}
-use Rattle.file_text.specs.Rules.{Opens, parts_in}
-use Rattle.file_text.specs.Causes.{OfLimit, OfLine, IsRefused, tables_in}
+use Rattle.file_text.specs.Rules.{Opens}
+use Rattle.file_text.specs.Causes.{IsRefused, tables_in}
 use Rattle.line_items.specs.declared.counts.Counts.{Counts}
 use Rattle.line_items.specs.declared.line_readings.LineReading.{LineReading}
 use Rattle.line_items.specs.declared.line_readings.LineReading.TheVariants.{Whole, Over, Misfit}
 use Rattle.line_items.specs.Counted.{IsCounted}
-use Rattle.line_items.specs.Readings.{IsReading, IsUnder}
+use Rattle.line_items.specs.Readings.{IsReading}
 use Rattle.cause_laws.specs.Clear.{Clear}
 use Rattle.cause_laws.proofs.LimitLemmas.{FewBefore, under_clear, passed_refused, long_refused, tables_refused, sessions_refused}
 use Rattle.cause_laws.proofs.LineLemmas.{ended_refused, not_ended, order_refused, in_order, misfit_refused, whole_clear}
 use Rattle.file_laws.proofs.FitLemmas.{some_is}
 use Rattle.line_checks.specs.declared.line_faults.LineFault.{LineFault}
 use Rattle.line_checks.specs.declared.line_faults.LineFault.TheVariants.{Limit, Cause}
-use Rattle.line_checks.specs.declared.checks.LineCheck.{LineCheck}
 use Rattle.line_checks.specs.declared.checks.LineCheck.TheVariants.{Items, Fault}
 use Rattle.line_checks.specs.declared.marks.Marks.{Marks}
 use Rattle.line_checks.specs.Faults.{cause_of}
 use Rattle.line_checks.specs.MarksOf.{IsMarked, in_order as orders}
-use Rattle.line_checks.specs.Checked.{HasForm, IsChecked, unless_fewer, passed_before, order_unless, after_end_or, order_fault, unless_faulty, check_of}
+use Rattle.line_checks.specs.Checked.{IsChecked, unless_fewer, passed_before, order_unless, after_end_or, order_fault, unless_faulty, check_of}
 use Rattle.line_checks.proofs.OrderLemmas.{is_in_order, out_of_order}
 
 pub too_long : (line : List ℕ) → 65535 < length line → (before : List Said) → IsRefused before line (cause_of (Limit LineBytes))
@@ -97,10 +94,10 @@ checked_is section marks counts line reading short e r before m k o = by_reading
     by_reading (Misfit place) x = by_order (order_fault section marks) (ordered section marks before line m o (under_clear section before line o few x.under))
       where
         by_order : (fault : Option LineFault) → Ordered section before line fault → IsChecked section before line (unless_faulty fault (Fault (Cause (Form place))))
-        by_order None (Fits c) = misfit_refused section before line place o c x
-        by_order (Some fault) (Breaks fault b) = b
+        by_order _ (Fits c) = misfit_refused section before line place o c x
+        by_order _ (Breaks fault b) = b
     by_reading (Whole items) x = by_order (order_fault section marks) (ordered section marks before line m o (under_clear section before line o few x.under))
       where
         by_order : (fault : Option LineFault) → Ordered section before line fault → IsChecked section before line (unless_faulty fault (Items items))
-        by_order None (Fits c) = record { whole = x; clear = whole_clear section before line items.items o c x }
-        by_order (Some fault) (Breaks fault b) = b
+        by_order _ (Fits c) = record { whole = x; clear = whole_clear section before line items.items o c x }
+        by_order _ (Breaks fault b) = b

@@ -1,18 +1,18 @@
 -- Marks with one line more.
 use Rattle.std.proofs.Common.{◌≡◌, ℕ, Bool, true, false, List, [], ◌∷◌, ◌++◌, Option, Some, None, refl, sym, ap, subst, ◌∙◌, arith}
-use Rattle.std.specs.Prelude.{◌+◌, ◌||◌, ◌==◌}
+use Rattle.std.specs.Prelude.{◌+◌, ◌||◌}
 use Rattle.file_text.specs.declared.places.Section.{Section}
 use Rattle.file_text.specs.declared.places.Section.TheVariants.{PtcLines, IsolationLines, ReplicaLines, TableLines, RowLines, SessionLines, LocalLines, ScheduleLines, EndLines}
 use Rattle.ptc_statement.specs.declared.scripts.ScriptStep.{ScriptStep}
 use Rattle.file_text.specs.Said.{Said, Skipped, Header, Isolation, Replicas, TableOf, RowOf, SessionOf, LocalOf, StepOf, Schedule, End, section_of}
-use Rattle.file_text.specs.Context.{replicas_said, replicas_of, is_end, is_ended, later, section_at, same_section, is_there, said_opens, opened, is_open, step_opens}
+use Rattle.file_text.specs.Context.{replicas_said, replicas_of, is_end, is_ended, later, section_at, same_section, is_there, said_opens, opened}
 use Rattle.file_text.specs.Causes.{tables_said, tables_in}
 use Rattle.file_laws.proofs.FitLemmas.{some_is}
 use Rattle.line_checks.specs.declared.marks.Marks.{Marks}
 use Rattle.line_checks.specs.MarksOf.{IsMarked, none_marked, marked, with_replicas, with_step}
 
 pub none_is_marked : IsMarked none_marked []
-none_is_marked = record { last = refl; header = refl; isolation = refl; replica_line = refl; table_line = refl; tables = refl; replicas = refl; ended = refl; open = refl }
+none_is_marked = record { last = refl; header = refl; isolation = refl; replica_line = refl; table_line = refl; tables = refl; replicas = refl; ended = refl; in_transaction = refl }
 
 -- ---- what the lines before and one more leave
 
@@ -80,7 +80,7 @@ behind m said = record {
   tables = m.tables + tables_said said;
   replicas = m.replicas + replicas_said said;
   ended = is_end said || m.ended;
-  open = said_opens m.open said;
+  in_transaction = said_opens m.in_transaction said;
 }
 
 pub marked_more : (m : Marks) (before : List Said) (said : Said) → IsMarked m before → IsMarked (behind m said) (before ++ said ∷ [])
@@ -93,11 +93,11 @@ marked_more m before said k = record {
   tables = ap (λ (n : ℕ). n + tables_said said) k.tables ∙ sym (tables_more before said);
   replicas = ap (λ (n : ℕ). n + replicas_said said) k.replicas ∙ sym (replicas_more before said);
   ended = ap (λ (b : Bool). is_end said || b) k.ended ∙ sym (ended_more before said);
-  open = ap (λ (b : Bool). said_opens b said) k.open ∙ sym (opened_more false before said);
+  in_transaction = ap (λ (b : Bool). said_opens b said) k.in_transaction ∙ sym (opened_more false before said);
 }
 
 abbrev with_tables : Marks → ℕ → Marks
-with_tables m tables = record { last = m.last; header = m.header; isolation = m.isolation; replica_line = m.replica_line; table_line = m.table_line; tables = tables; replicas = m.replicas; ended = m.ended; open = m.open }
+with_tables m tables = record { last = m.last; header = m.header; isolation = m.isolation; replica_line = m.replica_line; table_line = m.table_line; tables = tables; replicas = m.replicas; ended = m.ended; in_transaction = m.in_transaction }
 
 plus_none : (n : ℕ) → n + 0 ≡ n
 plus_none n = omega arith
@@ -124,7 +124,7 @@ section_behind m (Schedule words) section e = at m (Schedule words) ScheduleLine
 section_behind m End section e = at m End EndLines section e (same_tables (with_replicas 0 (marked EndLines m)))
 
 abbrev with_number : Marks → ℕ → Marks
-with_number m replicas = record { last = m.last; header = m.header; isolation = m.isolation; replica_line = m.replica_line; table_line = m.table_line; tables = m.tables; replicas = replicas; ended = m.ended; open = m.open }
+with_number m replicas = record { last = m.last; header = m.header; isolation = m.isolation; replica_line = m.replica_line; table_line = m.table_line; tables = m.tables; replicas = replicas; ended = m.ended; in_transaction = m.in_transaction }
 
 no_replicas : (m : Marks) → with_replicas 0 m ≡ m
 no_replicas m = ap (with_number m) (plus_none m.replicas)

@@ -1,10 +1,9 @@
 -- Whether a line is in order, by the marks.
-use Rattle.std.proofs.Common.{◌≡◌, ℕ, Bool, true, false, List, [], ◌∷◌, Option, Some, None, refl, sym, ap, subst, ◌∙◌, arith}
+use Rattle.std.proofs.Common.{◌≡◌, Bool, true, false, List, Option, refl, sym, ap, ◌∙◌}
 use Rattle.std.specs.Prelude.{◌&&◌}
 use Rattle.file_text.specs.declared.places.Section.{Section}
 use Rattle.file_text.specs.declared.places.Section.TheVariants.{PtcLines, ReplicaLines, TableLines}
 use Rattle.file_text.specs.Said.{Said}
-use Rattle.file_text.specs.Context.{section_at, is_there}
 use Rattle.file_text.specs.Causes.{needs, at_or_behind, IsInOrder}
 use Rattle.file_laws.proofs.FitLemmas.{true_false}
 use Rattle.line_checks.specs.declared.marks.Marks.{Marks}

@@ -1,5 +1,5 @@
 -- The limits, the order and the form of a line of a section.
-use Rattle.std.specs.Prelude.{◌≡◌, ◌≤◌, leb, ℕ, Bool, true, false, List, length, Option, None, Some}
+use Rattle.std.specs.Prelude.{leb, ℕ, Bool, true, false, List, Option, None, Some}
 use Rattle.file_text.specs.declared.faults.LimitKind.TheVariants.{Tables, Sessions}
 use Rattle.file_text.specs.declared.faults.LineCause.TheVariants.{AfterEnd, Order, Form}
 use Rattle.file_text.specs.declared.places.Section.{Section}

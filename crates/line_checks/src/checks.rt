@@ -84,7 +84,13 @@ pub fn long_fault(line: &[u8]) -> Option<LineFault>
 /// The items of a line of this section, behind lines with these marks and counts, or the first of the rules on
 /// limits, order and form that it breaks.
 #[tactic(auto, using(crate::proofs::CheckLemmas::passed_is, crate::proofs::CheckLemmas::checked_is))]
-pub fn section_items(alloc: Global, section: Section, marks: &Marks, counts: &Counts, line: &[u8]) -> R<LineCheck>
+pub fn section_items(
+    alloc: Global,
+    section: Section,
+    marks: &Marks,
+    counts: &Counts,
+    line: &[u8],
+) -> R<LineCheck>
     requires { length line.now ≤ 65535 }
     ensures { IfOk result (λ check. (before : List Said) → IsMarked marks.now before → IsCounted counts.now before → Opens section line.now → IsChecked section before line.now check) }
 {

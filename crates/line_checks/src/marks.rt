@@ -23,7 +23,7 @@ pub struct Marks {
     /// behind END
     pub ended: bool,
     /// in a transaction of a script that is not ended
-    pub open: bool,
+    pub in_transaction: bool,
 }
 
 fn rank(section: Section) -> u8
@@ -79,7 +79,7 @@ impl Marks {
             tables: 0,
             replicas: 0,
             ended: false,
-            open: false,
+            in_transaction: false,
         }
     }
 
@@ -142,9 +142,9 @@ impl Marks {
         ensures { self.new ≡ with_this_step step.now self.old }
     {
         match step {
-            ScriptStep::Begin => self.open = true,
-            ScriptStep::Commit => self.open = false,
-            ScriptStep::Rollback => self.open = false,
+            ScriptStep::Begin => self.in_transaction = true,
+            ScriptStep::Commit => self.in_transaction = false,
+            ScriptStep::Rollback => self.in_transaction = false,
             ScriptStep::Run(_) => {}
         }
     }

@@ -1,4 +1,3 @@
-use Rattle.cause_laws.specs.Laws.{GoodLine, RefusedLine}
 use Rattle.cause_laws.proofs.SaidLemmas.{good_line, refused_line}
 use Rattle.cause_laws.proofs.laws.said_lines.Goals as goal
 
