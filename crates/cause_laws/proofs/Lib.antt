@@ -3,3 +3,4 @@ pub mod LimitLemmas
 pub mod LineLemmas
 pub mod SaidLemmas
 pub mod StepLemmas
+pub mod MoreLemmas

@@ -1,71 +1,19 @@
 -- Marks with one line more.
-use Rattle.std.proofs.Common.{◌≡◌, ℕ, Bool, true, false, List, [], ◌∷◌, ◌++◌, Option, Some, None, refl, sym, ap, subst, ◌∙◌, arith}
+use Rattle.std.proofs.Common.{◌≡◌, ℕ, Bool, false, List, [], ◌∷◌, ◌++◌, Some, refl, sym, ap, subst, ◌∙◌, arith}
 use Rattle.std.specs.Prelude.{◌+◌, ◌||◌}
 use Rattle.file_text.specs.declared.places.Section.{Section}
 use Rattle.file_text.specs.declared.places.Section.TheVariants.{PtcLines, IsolationLines, ReplicaLines, TableLines, RowLines, SessionLines, LocalLines, ScheduleLines, EndLines}
 use Rattle.ptc_statement.specs.declared.scripts.ScriptStep.{ScriptStep}
 use Rattle.file_text.specs.Said.{Said, Skipped, Header, Isolation, Replicas, TableOf, RowOf, SessionOf, LocalOf, StepOf, Schedule, End, section_of}
-use Rattle.file_text.specs.Context.{replicas_said, replicas_of, is_end, is_ended, later, section_at, same_section, is_there, said_opens, opened}
-use Rattle.file_text.specs.Causes.{tables_said, tables_in}
+use Rattle.file_text.specs.Context.{replicas_said, is_end, same_section, said_opens}
+use Rattle.file_text.specs.Causes.{tables_said}
 use Rattle.file_laws.proofs.FitLemmas.{some_is}
+use Rattle.cause_laws.proofs.MoreLemmas.{newest, section_more, there_more, ended_more, opened_more, replicas_more, tables_more}
 use Rattle.line_checks.specs.declared.marks.Marks.{Marks}
 use Rattle.line_checks.specs.MarksOf.{IsMarked, none_marked, marked, with_replicas, with_step}
 
 pub none_is_marked : IsMarked none_marked []
 none_is_marked = record { last = refl; header = refl; isolation = refl; replica_line = refl; table_line = refl; tables = refl; replicas = refl; ended = refl; in_transaction = refl }
-
--- ---- what the lines before and one more leave
-
-abbrev newest : Option Section → Option Section → Option Section
-newest None old = old
-newest (Some section) old = Some section
-
-later_newest : (first second third : Option Section) → later first (newest third second) ≡ newest third (later first second)
-later_newest None second third = refl
-later_newest (Some first) None None = refl
-later_newest (Some first) None (Some third) = refl
-later_newest (Some first) (Some second) None = refl
-later_newest (Some first) (Some second) (Some third) = refl
-
-later_none : (first : Option Section) → later first None ≡ first
-later_none None = refl
-later_none (Some first) = refl
-
-section_more : (before : List Said) (said : Said) → section_at (before ++ said ∷ []) ≡ newest (section_of said) (section_at before)
-section_more [] said = later_none (section_of said) ∙ by_section (section_of said)
-  where
-    by_section : (o : Option Section) → o ≡ newest o None
-    by_section None = refl
-    by_section (Some section) = refl
-section_more (first ∷ before) said = ap (later (section_of first)) (section_more before said) ∙ later_newest (section_of first) (section_at before) (section_of said)
-
-or_swap : (a b c : Bool) → (a || (b || c)) ≡ (b || (a || c))
-or_swap true true c = refl
-or_swap true false c = refl
-or_swap false true c = refl
-or_swap false false c = refl
-
-there_more : (section : Section) (before : List Said) (said : Said) → is_there section (before ++ said ∷ []) ≡ (same_section section (section_of said) || is_there section before)
-there_more section [] said = refl
-there_more section (first ∷ before) said =
-    ap (λ (b : Bool). same_section section (section_of first) || b) (there_more section before said)
-    ∙ or_swap (same_section section (section_of first)) (same_section section (section_of said)) (is_there section before)
-
-ended_more : (before : List Said) (said : Said) → is_ended (before ++ said ∷ []) ≡ (is_end said || is_ended before)
-ended_more [] said = refl
-ended_more (first ∷ before) said = ap (λ (b : Bool). is_end first || b) (ended_more before said) ∙ or_swap (is_end first) (is_end said) (is_ended before)
-
-opened_more : (within : Bool) (before : List Said) (said : Said) → opened within (before ++ said ∷ []) ≡ said_opens (opened within before) said
-opened_more within [] said = refl
-opened_more within (first ∷ before) said = opened_more (said_opens within first) before said
-
-replicas_more : (before : List Said) (said : Said) → replicas_of (before ++ said ∷ []) ≡ replicas_of before + replicas_said said
-replicas_more [] said = omega arith
-replicas_more (first ∷ before) said = let e = replicas_more before said in omega (arith, e)
-
-tables_more : (before : List Said) (said : Said) → tables_in (before ++ said ∷ []) ≡ tables_in before + tables_said said
-tables_more [] said = omega arith
-tables_more (first ∷ before) said = let e = tables_more before said in omega (arith, e)
 
 -- ---- marks
 

@@ -1,0 +1,5 @@
+mod PutLemmas
+mod NumberLemmas
+mod NodeLemmas
+pub mod HoldLemmas
+pub mod ThereLemmas
