@@ -1,5 +1,5 @@
 -- The tables and rows of the lines before, with one line more.
-use Rattle.std.proofs.Common.{◌≡◌, ◌≢◌, ◌<◌, ◌≤◌, ◌+◌, ◌^◌, ℕ, zero, suc, Bool, true, false, List, [], ◌∷◌, ◌++◌, map, Some, None, refl, sym, ap, subst, ◌∙◌, arith, append-nil}
+use Rattle.std.proofs.Common.{length, ◌≡◌, ◌≢◌, ◌<◌, ◌≤◌, ◌+◌, ◌^◌, ℕ, zero, suc, Bool, true, false, List, [], ◌∷◌, ◌++◌, map, Some, None, refl, sym, ap, subst, ◌∙◌, arith, append-nil}
 use Rattle.std.specs.Prelude.{◌&&◌, bytes_eq, if◌then◌else◌, replicate}
 use Rattle.std.specs.List.{AllByRecursion, flat_map}
 use Rattle.std.proofs.lemmas.Slice.Eq.{bytes_eq-Decides}
@@ -44,6 +44,7 @@ same_replicas before said z = let e = replicas_more before said in omega (arith,
 holds_on : (before : List Said) (said : Said) (table : FileTable) → ((node : ℕ) → row_said node table.schema.name said ≡ []) → replicas_said said ≡ 0 → HoldsTable before table → HoldsTable (before ++ said ∷ []) table
 holds_on before said table none z h = record {
   schema = h.schema;
+  few = h.few;
   keys = h.keys;
   rows =
       h.rows
@@ -106,13 +107,14 @@ all_push P [] x h p = (p, tt)
 all_push P (first ∷ xs) x h p = (h.0, all_push P xs x h.1 p)
 
 pub table_held : (tables : List FileTable) (table : FileTable) (before : List Said) (name : List ℕ) (columns : List ColumnText)
-    → HoldsRows tables before → NoRows before → place_named name 0 tables ≡ None → IsSchema (schema_of name columns) → table.schema ≡ schema_of name columns
+    → HoldsRows tables before → NoRows before → place_named name 0 tables ≡ None → IsSchema (schema_of name columns) → length (schema_of name columns).columns ≤ 16 → table.schema ≡ schema_of name columns
     → rows_of table.nodes.items ≡ replicate (suc (replicas_of before)) [] → AllByRecursion (IsOfKey table.schema.key_len) table.nodes.items
     → HoldsRows (tables ++ table ∷ []) (before ++ TableOf name columns ∷ [])
-table_held tables table before name columns h none free is s r k = record {
+table_held tables table before name columns h none free is most s r k = record {
   schemas = map-append (λ (t : FileTable). t.schema) tables (table ∷ []) ∙ ap (λ (l : List Schema). l ++ table.schema ∷ []) h.schemas ∙ ap (λ (x : Schema). schemas_of before ++ x ∷ []) s ∙ sym (schemas_more before (TableOf name columns));
   tables = all_push (HoldsTable (before ++ TableOf name columns ∷ [])) tables table (all_on before (TableOf name columns) (λ node t. refl) refl tables h.tables) (record {
     schema = subst IsSchema (sym s) is;
+    few = subst (λ (x : Schema). length x.columns ≤ 16) (sym s) most;
     keys = k;
     rows =
         r
@@ -135,6 +137,7 @@ put_holds : (before : List Said) (which : Node) (table : List ℕ) (literals : L
     → IsPut (kept_node which) (map value_of literals) old new → HoldsTable before old → HoldsTable (before ++ RowOf which table literals ∷ []) new
 put_holds before which table literals old new few e p h = record {
   schema = subst IsSchema (sym p.schema) h.schema;
+  few = subst (λ (x : Schema). length x.columns ≤ 16) (sym p.schema) h.few;
   keys = subst (λ (s : Schema). AllByRecursion (IsOfKey s.key_len) new.nodes.items) (sym p.schema) (keys_same old.schema.key_len old.nodes.items new.nodes.items p.keys h.keys);
   rows =
       p.rows

@@ -1,5 +1,5 @@
 -- What the tables and rows of the lines before a line are.
-use Rattle.std.specs.Prelude.{◌≡◌, ◌≢◌, ℕ, suc, List, [], ◌∷◌, map}
+use Rattle.std.specs.Prelude.{◌≡◌, ◌≢◌, ◌≤◌, ℕ, suc, List, [], ◌∷◌, map, length}
 use Rattle.std.specs.List.{AllByRecursion}
 use Rattle.row_types.specs.declared.table_schema.Schema.{Schema}
 use Rattle.row_types.specs.Fit.{IsSchema}
@@ -19,6 +19,7 @@ IsOfKey key_len table = table.key_len ≡ key_len
 -- the table has the rows of these lines, on each node
 pub record HoldsTable (before : List Said) (table : FileTable) : Type 0 where
   pub schema : IsSchema table.schema
+  pub few : length table.schema.columns ≤ 16
   pub keys : AllByRecursion (IsOfKey table.schema.key_len) table.nodes.items
   pub rows : rows_of table.nodes.items ≡ map (λ (node : ℕ). table_in before node table.schema) (nodes_from 0 (suc (replicas_of before)))
 

@@ -1,8 +1,8 @@
 -- A line that is read item by item.
 use Rattle.std.proofs.Common.{◌≡◌, ◌⊎◌, inl, inr, ℕ, Bool, true, false, List, [], ◌∷◌, ◌++◌, Option, Some, None, map, refl, sym, ap, subst, ◌∙◌, arith, append_assoc, append-nil}
-use Rattle.std.specs.Prelude.{◌+◌, ◌≤◌, ◌==◌, suc, length, ⊤, MatchOption}
+use Rattle.std.specs.Prelude.{◌+◌, ◌-◌, ◌≤◌, ◌==◌, zero, suc, length, ⊤, MatchOption}
 use Rattle.std.specs.Option.{option_map}
-use Rattle.file_text.specs.Parts.{Part, past_end}
+use Rattle.file_text.specs.Parts.{Part, past_end, place_of}
 use Rattle.file_text.specs.declared.places.Section.{Section}
 use Rattle.file_text.specs.declared.places.Section.TheVariants.{PtcLines, IsolationLines, ReplicaLines, TableLines, RowLines, SessionLines, LocalLines, ScheduleLines, EndLines}
 use Rattle.file_text.specs.declared.places.Spot.{Spot}
@@ -353,3 +353,38 @@ unfit_by None None text offset e = absurd cc
 pub unfit_short : (section : Section) (counts : Counts) (text : List ℕ) (old new : Walk) (offset : ℕ) → Steps section counts text old new (StepUnfit offset) → offset ≤ length text + 1
 unfit_short section counts text old new offset (NoItem none e) = let f = unfit_is offset 0 e in omega (arith, f)
 unfit_short section counts text old new offset (AnItem found is e taken) = unfit_by (misplaced_item counts old.tally found.item) (passed_item section counts old.tally found.item) text offset e
+
+-- ---- the place of a part
+
+-- the part that is looked for is among those that are left
+pub record IsCounting (section : Section) (line : List ℕ) (number place : ℕ) (rest : List ℕ) (cutting : Cutting) (left : ℕ) : Type 0 where
+  pub among : place_of (past_end line) (parts_from cutting place rest) left ≡ place_of (past_end line) (parts_in section line) number
+  pub within : place + length rest ≡ 1 + length line
+
+pub counting_begun : (section : Section) (line : List ℕ) (number : ℕ) → IsCounting section line number 1 line (cutting_of section) number
+counting_begun section line number = record { among = ap (λ (ps : List Part). place_of (past_end line) ps number) (sym (parts_are section line)); within = refl }
+
+pub part_found : (section : Section) (line : List ℕ) (number place : ℕ) (rest : List ℕ) (cutting : Cutting) (left at : ℕ) (text : List ℕ) (next : ℕ) (more : List ℕ) (behind : Cutting)
+    → IsCounting section line number place rest cutting left → NextPart cutting place rest at text next more behind → left ≡ 0 → at ≡ place_of (past_end line) (parts_in section line) number
+part_found section line number place rest cutting left at text next more behind k p z =
+    ap (place_of (past_end line) (record { place = at; text = text } ∷ parts_from behind next more)) (sym z)
+    ∙ ap (λ (ps : List Part). place_of (past_end line) ps left) (sym p.parts)
+    ∙ k.among
+
+pub part_passed : (section : Section) (line : List ℕ) (number place : ℕ) (rest : List ℕ) (cutting : Cutting) (left at : ℕ) (text : List ℕ) (next : ℕ) (more : List ℕ) (behind : Cutting) (fewer : ℕ)
+    → IsCounting section line number place rest cutting left → NextPart cutting place rest at text next more behind → left ≡ suc fewer → IsCounting section line number next more behind fewer
+part_passed section line number place rest cutting left at text next more behind fewer k p s = record {
+  among =
+      ap (place_of (past_end line) (record { place = at; text = text } ∷ parts_from behind next more)) (sym s)
+      ∙ ap (λ (ps : List Part). place_of (past_end line) ps left) (sym p.parts)
+      ∙ k.among;
+  within = let w = k.within in let q = p.places in omega (arith, w, q);
+}
+
+pub part_missing : (section : Section) (line : List ℕ) (number place : ℕ) (rest : List ℕ) (cutting : Cutting) (left : ℕ) → IsCounting section line number place rest cutting left → parts_from cutting place rest ≡ []
+    → past_end line ≡ place_of (past_end line) (parts_in section line) number
+part_missing section line number place rest cutting left k e = ap (λ (ps : List Part). place_of (past_end line) ps left) (sym e) ∙ k.among
+
+pub one_more : (n : ℕ) → (n ≡ 0 → ⊥) → n ≡ suc (n - 1)
+one_more zero never = absurd (never refl)
+one_more (suc n) never = omega arith

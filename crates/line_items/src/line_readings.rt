@@ -24,7 +24,7 @@ pub enum LineReading {
     Misfit { place: u32 },
 }
 
-fn cutting_of(section: Section) -> Cutting
+pub(crate) fn cutting_of(section: Section) -> Cutting
     ensures { result ≡ the_cutting_of section }
 {
     match section {
@@ -35,7 +35,7 @@ fn cutting_of(section: Section) -> Cutting
 }
 
 /// One past the line's last byte that is no space.
-fn past_end(line: &[u8]) -> u32
+pub(crate) fn past_end(line: &[u8]) -> u32
     requires { length line.now < 2 ^ 31 }
     ensures { result ≡ the_past_end line.now }
 {

@@ -1,4 +1,6 @@
 mod RangeLemmas
 mod RowLemmas
 mod TableLemmas
+mod SchemaLemmas
+mod LengthLemmas
 mod LineLemmas

@@ -1,12 +1,12 @@
 -- The items of a whole line give what it says.
-use Rattle.std.proofs.Common.{◌≡◌, ℕ, Bool, true, false, List, [], ◌∷◌, Some, map, refl, sym, ap, subst, ◌∙◌, arith, append-nil, leb-true, leb-false}
+use Rattle.std.proofs.Common.{◌≡◌, ℕ, Bool, true, false, List, [], ◌∷◌, Some, map, refl, sym, ap, subst, ◌∙◌, arith, append-nil, length, leb-true, leb-false}
 use Rattle.std.specs.Prelude.{◌≤◌, leb}
 use Rattle.file_text.specs.Parts.{Part}
 use Rattle.file_text.specs.declared.places.Section.{Section}
-use Rattle.file_text.specs.declared.places.Section.TheVariants.{ReplicaLines}
+use Rattle.file_text.specs.declared.places.Section.TheVariants.{ReplicaLines, TableLines, RowLines}
 use Rattle.file_text.specs.declared.places.Keyword.TheVariants.{First}
 use Rattle.file_text.specs.declared.faults.LimitKind.TheVariants.{Replicas as ReplicaLimit}
-use Rattle.file_text.specs.Said.{Said, Skipped, Header, Isolation, Replicas, TableOf, RowOf, SessionOf, LocalOf, StepOf, Schedule, End, Item, Word, Count, Turns, RepeatableRead, ReadCommitted, ReadUncommitted, Serializable, ScheduleWord, section_of, behind_first, HasForm, Spells}
+use Rattle.file_text.specs.Said.{Said, Skipped, Header, Isolation, Replicas, TableOf, RowOf, SessionOf, LocalOf, StepOf, Schedule, End, Item, Word, Count, Turns, RepeatableRead, ReadCommitted, ReadUncommitted, Serializable, ScheduleWord, section_of, behind_first, HasForm, Spells, NodeWord, Name, Sign}
 use Rattle.file_text.specs.Rules.{InRange, IsWritten, Says, parts_in}
 use Rattle.line_words.specs.Actors.{kept}
 use Rattle.line_words.specs.Items.{kept_word}
@@ -18,6 +18,8 @@ use Rattle.line_values.specs.Lines.{GivesCount, Gives, WholeLineSays}
 use Rattle.line_values.proofs.RangeLemmas.{unless_none}
 use Rattle.line_values.proofs.RowLemmas.{row_given}
 use Rattle.line_values.proofs.TableLemmas.{table_given}
+use Rattle.line_values.proofs.SchemaLemmas.{table_fits}
+use Rattle.line_values.proofs.LengthLemmas.{row_values, row_texts}
 
 words_of : (words : List ScheduleWord) → the_words (map kept_item (map Turns words)) ≡ map kept_word words
 words_of [] = refl
@@ -60,29 +62,37 @@ count_given before parts count s r u = record { is = small; some = some; few = f
 section_some : (x y : Section) → Some x ≡ Some y → x ≡ y
 section_some x y e = cc
 
-gives : (section : Section) (before : List Said) (parts : List Part) (said : Said) → section_of said ≡ Some section → HasForm said
-    → Spells (Word (First section) ∷ behind_first said) parts → InRange before [] (Word (First section) ∷ behind_first said) → IsUnder section before parts
+-- the line of a section gives what it says
+abbrev GivesAll : List Said → List ℕ → Said → Section → Type 0
+GivesAll before line said section =
+    Spells (Word (First section) ∷ behind_first said) (parts_in section line) → InRange before [] (Word (First section) ∷ behind_first said) → IsUnder section before (parts_in section line)
     → Gives said (map kept_item (Word (First section) ∷ behind_first said))
-gives section before parts Skipped o h s r u = tt
-gives section before parts (Header version) o h s r u = tt
-gives section before parts (Isolation RepeatableRead) o h s r u = refl
-gives section before parts (Isolation ReadCommitted) o h s r u = refl
-gives section before parts (Isolation ReadUncommitted) o h s r u = refl
-gives section before parts (Isolation Serializable) o h s r u = refl
-gives section before parts (Replicas count) o h s r u =
-    by_section section o s r u
-  where
-    by_section : (section : Section) → Some ReplicaLines ≡ Some section → Spells (Word (First section) ∷ Count count ∷ []) parts → InRange before [] (Word (First section) ∷ Count count ∷ []) → IsUnder section before parts
-        → GivesCount count (map kept_item (Word (First section) ∷ Count count ∷ []))
-    by_section ReplicaLines o s r u = count_given before parts count s r u
-    by_section _ o s r u = absurd cc
-gives section before parts (TableOf name columns) o h s r u = table_given section before name columns h r
-gives section before parts (RowOf node table literals) o h s r u = row_given section before node table literals h r
-gives section before parts (SessionOf session) o h s r u = tt
-gives section before parts (LocalOf replica session) o h s r u = refl
-gives section before parts (StepOf step) o h s r u = tt
-gives section before parts (Schedule words) o h s r u = words_of words
-gives section before parts End o h s r u = tt
+
+gives : (before : List Said) (line : List ℕ) (said : Said) (section : Section) → length line ≤ 65535 → section_of said ≡ Some section → HasForm said → GivesAll before line said section
+gives before line Skipped section l o h = absurd cc
+gives before line (Header version) section l o h = λ s r u. tt
+gives before line (Isolation RepeatableRead) section l o h = λ s r u. refl
+gives before line (Isolation ReadCommitted) section l o h = λ s r u. refl
+gives before line (Isolation ReadUncommitted) section l o h = λ s r u. refl
+gives before line (Isolation Serializable) section l o h = λ s r u. refl
+gives before line (Replicas count) section l o h = subst (GivesAll before line (Replicas count)) (section_some ReplicaLines section o) (λ s r u. count_given before (parts_in ReplicaLines line) count s r u)
+gives before line (TableOf name columns) section l o h =
+    subst (GivesAll before line (TableOf name columns)) (section_some TableLines section o)
+    (λ s r u.
+        let f = table_fits before (parts_in TableLines line) name columns h s r u in
+        record { is = table_given TableLines before name columns h r; fits = f.0; few = f.1 })
+gives before line (RowOf node table literals) section l o h =
+    subst (GivesAll before line (RowOf node table literals)) (section_some RowLines section o)
+    (λ s r u. record {
+      is = row_given RowLines before node table literals h r;
+      few = row_values (Word (First RowLines)) (NodeWord node) (Name table) (Sign 40) literals line l s;
+      texts = row_texts (Word (First RowLines)) (NodeWord node) (Name table) (Sign 40) literals line l s;
+    })
+gives before line (SessionOf session) section l o h = λ s r u. tt
+gives before line (LocalOf replica session) section l o h = λ s r u. refl
+gives before line (StepOf step) section l o h = absurd cc
+gives before line (Schedule words) section l o h = λ s r u. words_of words
+gives before line End section l o h = λ s r u. tt
 
 says_written : (section : Section) (before : List Said) (line : List ℕ) (said : Said) → section_of said ≡ Some section → IsWritten section before line said → Says before line said
 says_written section before line Skipped o w = absurd cc
@@ -98,7 +108,7 @@ says_written section before line (Schedule words) o w = (section, w)
 says_written section before line End o w = (section, w)
 
 pub whole_says : WholeLineSays
-whole_says section before line items opens w =
+whole_says section before line items short opens w =
     let said = w.line.said in
     let spelled = subst (λ (l : List Item). Spells l (parts_in section line)) w.line.written w.spelled in
     let in_range = subst (InRange before []) w.line.written w.in_range in
@@ -109,5 +119,5 @@ whole_says section before line items opens w =
       form = w.line.form;
       in_range = in_range;
       are = w.kept ∙ ap (map kept_item) w.line.written;
-      gives = subst (Gives said) (sym (w.kept ∙ ap (map kept_item) w.line.written)) (gives section before (parts_in section line) said w.line.of w.line.form spelled in_range w.under);
+      gives = subst (Gives said) (sym (w.kept ∙ ap (map kept_item) w.line.written)) (gives before line said section short w.line.of w.line.form spelled in_range w.under);
     }

@@ -50,12 +50,12 @@ abbrev turned_columns : List ColumnText → List Column
 turned_columns [] = []
 turned_columns (column ∷ columns) = turned_columns columns ++ column_of column ∷ []
 
-abbrev HasShortLength : ColumnKind → Type 0
+abbrev pub HasShortLength : ColumnKind → Type 0
 HasShortLength IntColumn = ⊤
 HasShortLength BigInt = ⊤
 HasShortLength (TextColumn max) = short_length (kept max) ≡ max
 
-abbrev ColumnIsShort : ColumnText → Type 0
+abbrev pub ColumnIsShort : ColumnText → Type 0
 ColumnIsShort column = HasShortLength column.kind
 
 at_mark : (mark : Mark) (columns : List Column) (keys : ℕ)
@@ -105,7 +105,7 @@ turned_back (column ∷ columns) = reverse-append (turned_columns columns) (colu
 
 -- ---- at most two words KEY
 
-no_keys : (columns : List ColumnText) → AllByRecursion HasNoKey columns → (keys_counted columns ≡ 0) × (keys_in columns ≡ 0)
+pub no_keys : (columns : List ColumnText) → AllByRecursion HasNoKey columns → (keys_counted columns ≡ 0) × (keys_in columns ≡ 0)
 no_keys [] h = (refl, refl)
 no_keys (column ∷ columns) h = by_mark column.mark h.0 (no_keys columns h.1)
   where
@@ -172,7 +172,7 @@ further_short before acc (column ∷ columns) r = (
   further_short before ((acc ++ Sign 44 ∷ []) ++ column_items column) columns (range_behind before (acc ++ Sign 44 ∷ []) (column_items column) (more_columns columns) r.1),
 )
 
-columns_short : (before : List Said) (acc : List Item) (columns : List ColumnText) → InRange before acc (columns_items columns) → AllByRecursion ColumnIsShort columns
+pub columns_short : (before : List Said) (acc : List Item) (columns : List ColumnText) → InRange before acc (columns_items columns) → AllByRecursion ColumnIsShort columns
 columns_short before acc [] r = tt
 columns_short before acc (column ∷ columns) r = (
   column_short before acc column (more_columns columns) r,
