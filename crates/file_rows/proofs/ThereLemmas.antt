@@ -37,6 +37,18 @@ none_named name place (table ∷ tables) e = by_test (bytes_eq table.schema.name
 pub no_table : (tables : List FileTable) (before : List Said) (name : List ℕ) → HoldsRows tables before → place_named name 0 tables ≡ None → (schema : Schema) → SchemaIs before name schema → ⊥
 no_table tables before name h e schema s = none_some (schema_named name (schemas_of before)) schema (ap (schema_named name) (sym h.schemas) ∙ none_named name 0 tables e) s
 
+some_named : (name : List ℕ) (first place : ℕ) (tables : List FileTable) → place_named name first tables ≡ Some place → (schema : Schema) × (schema_named name (schemas_in tables) ≡ Some schema)
+some_named name first place [] e = absurd cc
+some_named name first place (table ∷ tables) e = by_test (bytes_eq table.schema.name name) e (some_named name (suc first) place tables)
+  where
+    by_test : (b : Bool) → (if b then Some first else place_named name (suc first) tables) ≡ Some place → (place_named name (suc first) tables ≡ Some place → (schema : Schema) × (schema_named name (schemas_in tables) ≡ Some schema))
+        → (schema : Schema) × ((if b then Some table.schema else schema_named name (schemas_in tables)) ≡ Some schema)
+    by_test true f go = (table.schema, refl)
+    by_test false f go = go f
+
+pub name_there : (tables : List FileTable) (before : List Said) (name : List ℕ) (place : ℕ) → HoldsRows tables before → place_named name 0 tables ≡ Some place → (schema : Schema) × SchemaIs before name schema
+name_there tables before name place h e = let s = some_named name 0 place tables e in (s.0, ap (schema_named name) (sym h.schemas) ∙ s.1)
+
 -- the table at the place
 pub record TableAt (before : List Said) (name : List ℕ) (table : FileTable) : Type 0 where
   pub schema : SchemaIs before name table.schema

@@ -1,13 +1,12 @@
 -- How many parts a line has at most, and how long they are.
-use Rattle.std.proofs.Common.{◌≡◌, ◌≤◌, ◌<◌, ◌+◌, ◌-◌, ◌^◌, ℕ, zero, suc, Bool, true, false, List, [], ◌∷◌, ◌++◌, map, length, take, refl, sym, ap, subst, ◌∙◌, arith}
+use Rattle.std.proofs.Common.{◌≡◌, ◌≤◌, ◌+◌, ◌-◌, ℕ, zero, suc, Bool, true, false, List, [], ◌∷◌, ◌++◌, map, length, take, refl, ap, arith}
 use Rattle.std.specs.Prelude.{if◌then◌else◌, ◌==◌}
 use Rattle.std.specs.List.{AllByRecursion}
 use Rattle.std.proofs.lemmas.List.{length-append}
-use Rattle.row_types.specs.declared.values.Value.{Value}
 use Rattle.row_types.specs.Faults.{TextIsShort}
 use Rattle.statement_tokens.specs.Spellings.{doubled, IsQuoted}
 use Rattle.file_text.specs.Parts.{Part, is_sign, touches, joined, tokens_within, behind_token, front_to, row_parts_from, row_parts_of}
-use Rattle.file_text.specs.Said.{Item, Sign, Quote, Literal, Number, Quoted, NullWord, value_of, literal_items, more_literals, literals_items, Spells}
+use Rattle.file_text.specs.Said.{Item, Literal, Number, Quoted, NullWord, value_of, literal_items, more_literals, literals_items, Spells}
 use Rattle.line_parts.proofs.PartLemmas.{token_shorter}
 
 -- no part is longer

@@ -79,8 +79,8 @@ gives before line (Replicas count) section l o h = subst (GivesAll before line (
 gives before line (TableOf name columns) section l o h =
     subst (GivesAll before line (TableOf name columns)) (section_some TableLines section o)
     (λ s r u.
-        let f = table_fits before (parts_in TableLines line) name columns h s r u in
-        record { is = table_given TableLines before name columns h r; fits = f.0; few = f.1 })
+    let f = table_fits before (parts_in TableLines line) name columns h s r u in
+    record { is = table_given TableLines before name columns h r; fits = f.0; few = f.1 })
 gives before line (RowOf node table literals) section l o h =
     subst (GivesAll before line (RowOf node table literals)) (section_some RowLines section o)
     (λ s r u. record {

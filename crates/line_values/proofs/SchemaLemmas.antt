@@ -1,23 +1,20 @@
 -- The form that a TABLE line gives is a schema of at most 16 columns.
-use Rattle.std.proofs.Common.{◌≡◌, ◌≤◌, ◌<◌, ◌+◌, ◌^◌, ℕ, zero, suc, Bool, true, false, List, [], ◌∷◌, ◌++◌, map, length, take, Some, None, refl, sym, ap, subst, ◌∙◌, arith, append_assoc, append-nil, leb, leb-true, leb-false}
-use Rattle.std.specs.Prelude.{⊤, ◌&&◌, if◌then◌else◌}
+use Rattle.std.proofs.Common.{◌≡◌, ◌≤◌, ◌<◌, ◌+◌, ℕ, suc, Bool, true, false, List, [], ◌∷◌, ◌++◌, map, length, take, refl, sym, ap, subst, ◌∙◌, arith, append_assoc, append-nil, leb, leb-true, leb-false}
+use Rattle.std.specs.Prelude.{if◌then◌else◌}
 use Rattle.std.specs.List.{AllByRecursion}
 use Rattle.row_types.specs.declared.table_schema.Column.{Column}
 use Rattle.row_types.specs.declared.table_schema.ColumnKind.{ColumnKind}
 use Rattle.row_types.specs.declared.table_schema.ColumnKind.TheVariants.{Int as IntColumn, BigInt, Text as TextColumn}
-use Rattle.row_types.specs.declared.table_schema.Schema.{Schema}
 use Rattle.row_types.specs.Fit.{KindFits, LengthFits, IsSchema}
 use Rattle.file_text.specs.Parts.{Part}
-use Rattle.file_text.specs.declared.places.Section.{Section}
 use Rattle.file_text.specs.declared.places.Section.TheVariants.{TableLines}
 use Rattle.file_text.specs.declared.places.Keyword.TheVariants.{First}
 use Rattle.file_text.specs.declared.faults.LimitKind.TheVariants.{Columns}
-use Rattle.file_text.specs.Said.{Said, TableOf, Item, Word, Sign, Name, Mark, Bare, Key, NotNull, ColumnText, kind_items, mark_items, column_items, more_columns, columns_items, is_key, HasNoKey, KeysFirst, behind_first, Spells}
+use Rattle.file_text.specs.Said.{Said, TableOf, Item, Word, Sign, Name, Mark, Bare, Key, NotNull, ColumnText, kind_items, mark_items, column_items, more_columns, columns_items, is_key, KeysFirst, behind_first, Spells}
 use Rattle.file_text.specs.Context.{column_of, is_nullable, keys_in, mark_keys, schema_of}
 use Rattle.file_text.specs.Rules.{InRange}
-use Rattle.file_text.specs.Causes.{names_among, PassesAt}
+use Rattle.file_text.specs.Causes.{names_among}
 use Rattle.line_items.specs.Readings.{IsUnder}
-use Rattle.line_values.proofs.RangeLemmas.{unless_none, range_behind}
 use Rattle.line_words.specs.Actors.{kept}
 use Rattle.line_values.specs.Tables.{short_length}
 use Rattle.line_values.proofs.TableLemmas.{HasShortLength, ColumnIsShort, no_keys, columns_short}

@@ -1,0 +1,4 @@
+pub mod Decides
+pub mod Tests
+pub mod Rows
+pub mod Steps
