@@ -5,6 +5,7 @@ mod refusals;
 mod words;
 
 pub use refusals::file_refusal;
+pub use words::{place_of, statement_word};
 
 #[cfg(test)]
 mod tests;
