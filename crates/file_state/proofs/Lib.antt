@@ -1,0 +1,2 @@
+mod GoodLemmas
+mod KeepLemmas
