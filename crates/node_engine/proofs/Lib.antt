@@ -1,3 +1,5 @@
 pub mod CommittedLemmas
 pub mod PublishedLemmas
 pub mod AskLemmas
+pub mod EachLemmas
+mod BeginLemmas

@@ -15,6 +15,7 @@ ghost use Rattle.ptc_statement.specs.Fits.{FitsSchemas};
 ghost use Rattle.node_parts.specs.ReadRows.{read_rows_of};
 ghost use Rattle.node_visits.specs.NextStarts.{next_started};
 
+use crate::begins::begin_and_start_parts;
 use crate::commits::commit_parts;
 use crate::publishing::{MasterFault, publish_parts};
 use checksum_table::Checks;
@@ -158,6 +159,24 @@ impl Node {
         ensures err { OnErr result (self.new ≡ self.old) }
     {
         start_parts(alloc, owner, statement, &mut self.parts)?;
+        Ok(())
+    }
+
+    /// Begins a transaction of an owner that has none, and starts its first statement; out of memory changes
+    /// nothing.
+    pub fn begin_and_start(
+        &mut self,
+        alloc: Global,
+        owner: Owner,
+        part: Part,
+        statement: Statement,
+    ) -> R<()>
+        requires none { txn_of owner.0 self.old.txns ≡ None }
+        requires fits { FitsSchemas self.old.schemas statement }
+        ensures ok { OnOk result (self.new ≡ after_call (StartCall owner statement) (begun owner part self.old)) }
+        ensures err { OnErr result (self.new ≡ self.old) }
+    {
+        begin_and_start_parts(alloc, owner, part, statement, &mut self.parts)?;
         Ok(())
     }
 

@@ -1,0 +1,3 @@
+pub mod Appliers
+pub mod Moves
+pub mod ApplierParts

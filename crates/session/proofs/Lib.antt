@@ -1,0 +1,4 @@
+mod NodeLemmas
+mod MoveLemmas
+mod PlaceLemmas
+pub mod StayLemmas
