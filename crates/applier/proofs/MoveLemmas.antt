@@ -12,7 +12,7 @@ use Rattle.node_model.specs.Txns.{txn_of}
 use Rattle.node_model.specs.Node.{NodeView}
 use Rattle.node_engine.proofs.EachLemmas.{each_at}
 use Rattle.applier.specs.Appliers.{ApplierView, LogFits, statement_behind, next_statement}
-use Rattle.applier.specs.Moves.{Moved, working_move, visit_move, idle_move}
+use Rattle.applier.specs.Moves.{working_move, visit_move, idle_move}
 
 pub walks : (w : Option Walk) (log : List Entry) (applier : ApplierView) (node : NodeView) → is_some w ≡ true
     → working_move w log applier node ≡ visit_move (next_statement applier.started applier.entry log) applier node
