@@ -1,2 +1,2 @@
 mod GoodLemmas
-mod KeepLemmas
+pub mod KeepLemmas

@@ -3,4 +3,4 @@ mod RowLemmas
 mod TableLemmas
 mod SchemaLemmas
 mod LengthLemmas
-mod LineLemmas
+pub mod LineLemmas

@@ -1,0 +1,2 @@
+mod TakeLemmas
+mod RowLemmas
