@@ -1,5 +1,5 @@
 -- What is answered to lines of tables and, behind them, of statements.
-use Rattle.std.specs.Prelude.{◌≡◌, ◌≤◌, ◌⊎◌, ℕ, List, [], ◌∷◌, ◌++◌, length, codes}
+use Rattle.std.specs.Prelude.{◌≡◌, ◌≤◌, ◌⊎◌, ℕ, List, [], ◌∷◌, ◌++◌, map, length, codes}
 use Rattle.std.specs.Fmt.{decimal}
 use Rattle.row_types.specs.declared.table_schema.Schema.{Schema}
 use Rattle.ptc_statement.specs.declared.statements.Statement.{Statement}
@@ -8,20 +8,22 @@ use Rattle.statement_grammar.specs.FirstFault.{IsText, IsFirstFault}
 use Rattle.statement_text.specs.StatementTexts.{statement_text}
 use Rattle.refusal_text.specs.Refusals.{place_of, statement_word}
 use Rattle.file_text.specs.declared.places.Section.TheVariants.{TableLines}
-use Rattle.file_text.specs.declared.places.Keyword.TheVariants.{First}
-use Rattle.file_text.specs.Said.{ColumnText, TableOf, Word, behind_first, KeysFirst, Spells}
+use Rattle.file_text.specs.File.{lines_of, content}
+use Rattle.file_text.specs.Said.{ColumnText, TableOf}
 use Rattle.file_text.specs.Context.{schema_of}
-use Rattle.file_text.specs.Rules.{InRange, parts_in}
+use Rattle.file_text.specs.Rules.{Says, parts_in}
 use Rattle.line_items.specs.Readings.{IsUnder}
 
--- the line is a TABLE line of the workload file, and this the table's schema
+-- the lines of a text, without a line feed at its end and the one CR before it
+abbrev pub texts_of : List ℕ → List (List ℕ)
+texts_of text = map content (lines_of text)
+
+-- the line is a TABLE line of the workload file, which passes no limit, and this the table's schema
 pub record IsTableLine (line : List ℕ) (schema : Schema) : Type 0 where
   pub short : length line ≤ 65535
   pub name : List ℕ
   pub columns : List ColumnText
-  pub form : KeysFirst columns
-  pub spelled : Spells (Word (First TableLines) ∷ behind_first (TableOf name columns)) (parts_in TableLines line)
-  pub in_range : InRange [] [] (Word (First TableLines) ∷ behind_first (TableOf name columns))
+  pub says : Says [] line (TableOf name columns)
   pub under : IsUnder TableLines [] (parts_in TableLines line)
   pub is : schema ≡ schema_of name columns
 

@@ -1,11 +1,9 @@
-ghost use Rattle.std.specs.Prelude.{◌≡◌, ◌≢◌, ◌<◌, ◌-◌, ◌^◌, ◌⊎◌, ℕ, List, [], ◌∷◌, ◌++◌, length, IfOk, IfErr, IsTrue, OnOk};
-ghost use Rattle.statement_grammar.specs.FirstFault.{IsFirstFault, IsText};
+ghost use Rattle.std.specs.Prelude.{◌≡◌, ◌≢◌, ℕ, List, [], ◌∷◌, ◌++◌, IfOk, OnOk};
 ghost use Rattle.statement_text.specs.StatementTexts.{statement_text};
 ghost use Rattle.statement_reads.specs.Reads.{IsRead};
-ghost use Rattle.text_check.specs.Checks.{AddsAnswer, AreAnswers, fault_text};
-ghost use Rattle.text_check.specs.Lines.{lines_of};
+ghost use Rattle.text_check.specs.Checks.{AddsAnswer, AreAnswers, fault_text, texts_of};
 
-use crate::lines::first_line;
+use file_lines::{content, first_line};
 use ptc_statement::Statement;
 use refusal_text::{place_of, statement_word};
 use row_types::{Memory, R, Schemas};
@@ -48,12 +46,11 @@ fn push_statement(
     push_bytes(out, b"\n")
 }
 
-/// Tables that cannot be counted in 32 bits are out of memory.
+/// A line too long for places of 32 bits is out of memory, and so are tables that cannot be counted.
 fn read_line(alloc: Global, line: &[u8], schemas: &Schemas) -> Result<Statement, TextFault>
-    requires { length line.now < 2 ^ 32 - 1 }
     ensures { IsRead schemas.now.tables line.now result }
 {
-    if !are_countable(schemas) {
+    if line.len() >= 4294967295 || !are_countable(schemas) {
         return Err(TextFault::Memory);
     }
     read(alloc, line, schemas)
@@ -74,7 +71,6 @@ fn push_read(
 }
 
 fn push_answer(alloc: Global, line: &[u8], schemas: &Schemas, out: &mut Vec<u8>) -> R<()>
-    requires { length line.now < 2 ^ 32 - 1 }
     ensures { OnOk result (AddsAnswer schemas.now.tables line.now out.old.items out.new.items) }
 {
     push_read(alloc, &read_line(alloc, line, schemas), schemas, out)
@@ -83,13 +79,12 @@ fn push_answer(alloc: Global, line: &[u8], schemas: &Schemas, out: &mut Vec<u8>)
 /// The answers to lines of statements.
 #[tactic(auto, using(crate::proofs::AnswerLemmas::none_answered, crate::proofs::AnswerLemmas::answered, crate::proofs::AnswerLemmas::all_answered))]
 pub fn answers(alloc: Global, text: &[u8], schemas: &Schemas) -> R<Vec<u8>>
-    requires { length text.now < 2 ^ 32 - 1 }
-    ensures { IfOk result (λ out. AreAnswers schemas.now.tables (lines_of text.now) out.items) }
+    ensures { IfOk result (λ out. AreAnswers schemas.now.tables (texts_of text.now) out.items) }
 {
     let mut out = Vec::new(alloc);
     let mut rest = text;
     while let Some((line, more)) = first_line(rest) {
-        push_answer(alloc, line, schemas, &mut out)?;
+        push_answer(alloc, content(line), schemas, &mut out)?;
         rest = more;
     }
     Ok(out)

@@ -4,7 +4,6 @@
 
 mod answers;
 mod checks;
-mod lines;
 mod tables;
 
 use crate::checks::check;
