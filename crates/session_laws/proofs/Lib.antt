@@ -1,0 +1,6 @@
+mod LineLemmas
+mod CallLemmas
+mod ListLemmas
+mod OwnLemmas
+mod LeaveLemmas
+mod TurnLemmas
