@@ -1,5 +1,0 @@
-use Rattle.session_tests.specs.Plays.{SceneFits}
-use Rattle.session_tests.proofs.scenes.play.Given as goal
-
-abbrev pub invariant-loop-i : goal.invariant-loop-i
-invariant-loop-i l = SceneFits l.scene.node.schemas l.scene.one.script l.scene.two.script
