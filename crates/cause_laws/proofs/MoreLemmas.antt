@@ -1,11 +1,11 @@
 -- What the lines before a line and that line give.
-use Rattle.std.proofs.Common.{◌≡◌, ℕ, Bool, true, false, List, [], ◌∷◌, ◌++◌, Option, Some, None, refl, ap, ◌∙◌, arith, append-nil}
+use Rattle.std.proofs.Common.{◌≡◌, Bool, true, false, List, [], ◌∷◌, ◌++◌, Option, Some, None, refl, ap, ◌∙◌, arith, append-nil}
 use Rattle.std.specs.Prelude.{◌+◌, ◌||◌}
 use Rattle.std.proofs.lemmas.Grind.{flat_map-append}
 use Rattle.row_types.specs.declared.table_schema.Schema.{Schema}
 use Rattle.file_text.specs.declared.places.Section.{Section}
 use Rattle.file_text.specs.Said.{Said, section_of}
-use Rattle.file_text.specs.Context.{schema_said, schemas_of, replicas_said, replicas_of, session_said, sessions_in, local_said, locals_in, scheduled_said, scheduled_in, is_end, is_ended, later, section_at, same_section, is_there, said_opens, opened}
+use Rattle.file_text.specs.Context.{schema_said, schemas_of, replicas_said, replicas_of, scheduled_said, scheduled_in, is_end, is_ended, later, section_at, same_section, is_there, said_opens, opened}
 use Rattle.file_text.specs.Causes.{tables_said, tables_in}
 
 abbrev pub newest : Option Section → Option Section → Option Section
@@ -58,14 +58,6 @@ replicas_more (first ∷ before) said = let e = replicas_more before said in ome
 pub tables_more : (before : List Said) (said : Said) → tables_in (before ++ said ∷ []) ≡ tables_in before + tables_said said
 tables_more [] said = omega arith
 tables_more (first ∷ before) said = let e = tables_more before said in omega (arith, e)
-
-pub sessions_more : (before : List Said) (said : Said) → sessions_in (before ++ said ∷ []) ≡ sessions_in before + session_said said
-sessions_more [] said = omega arith
-sessions_more (first ∷ before) said = let e = sessions_more before said in omega (arith, e)
-
-pub locals_more : (replica : ℕ) (before : List Said) (said : Said) → locals_in replica (before ++ said ∷ []) ≡ locals_in replica before + local_said replica said
-locals_more replica [] said = omega arith
-locals_more replica (first ∷ before) said = let e = locals_more replica before said in omega (arith, e)
 
 pub scheduled_more : (before : List Said) (said : Said) → scheduled_in (before ++ said ∷ []) ≡ scheduled_in before + scheduled_said said
 scheduled_more [] said = omega arith

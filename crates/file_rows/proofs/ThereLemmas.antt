@@ -1,5 +1,5 @@
 -- Whether a table, and a row, is there.
-use Rattle.std.proofs.Common.{◌≡◌, ◌<◌, ◌≤◌, ◌+◌, ℕ, zero, suc, Bool, true, false, List, [], ◌∷◌, ◌++◌, map, length, take, Option, Some, None, refl, sym, ap, subst, ◌∙◌, arith, slice_index_or, ◌⊎◌, inl, inr, leb, leb-true, leb-false, ◌^◌}
+use Rattle.std.proofs.Common.{◌≡◌, ◌<◌, ◌≤◌, ◌+◌, ℕ, zero, suc, Bool, true, false, List, [], ◌∷◌, ◌++◌, map, length, take, Option, Some, None, refl, sym, ap, subst, ◌∙◌, arith, slice_index_or, inl, inr, leb, leb-true, leb-false, ◌^◌}
 use Rattle.std.specs.Prelude.{◌&&◌, ◌||◌, bytes_eq, if◌then◌else◌, is_some, cond}
 use Rattle.std.specs.List.{AllByRecursion, flat_map}
 use Rattle.std.specs.Ordering.{is_eq}
@@ -16,6 +16,7 @@ use Rattle.file_text.specs.Causes.{is_for, key_in, HasKey, SomeSaid, schema_name
 use Rattle.file_text.specs.File.{row_said, table_in, nodes_from}
 use Rattle.line_words.specs.Items.{kept_node}
 use Rattle.file_laws.proofs.FitLemmas.{some_is, none_some, head_of, tail_of}
+use Rattle.file_laws.proofs.TestLemmas.{either, or_right, or_left, both}
 use Rattle.file_rows.specs.declared.file_tables.FileTable.{FileTable}
 use Rattle.file_rows.specs.NodeRows.{is_for_word, rows_of, has_at, any_has}
 use Rattle.file_rows.specs.Holds.{schemas_in, IsOfKey, HoldsTable, HoldsRows}
@@ -113,23 +114,6 @@ any_append key_len key (x ∷ xs) ys = ap (λ (b : Bool). is_at key_len key x ||
     or_assoc : (a b c : Bool) → (a || (b || c)) ≡ ((a || b) || c)
     or_assoc true b c = refl
     or_assoc false b c = refl
-
-either : (a b : Bool) → (a || b) ≡ true → (a ≡ true) ⊎ (b ≡ true)
-either true b e = inl refl
-either false b e = inr e
-
-or_right : (a b : Bool) → b ≡ true → (a || b) ≡ true
-or_right true b e = refl
-or_right false b e = e
-
-or_left : (a b : Bool) → a ≡ true → (a || b) ≡ true
-or_left true b e = refl
-or_left false b e = absurd cc
-
-both : (a b : Bool) → (a && b) ≡ true → (a ≡ true) × (b ≡ true)
-both true true e = (refl, refl)
-both true false e = absurd cc
-both false b e = absurd cc
 
 -- ---- the line that said it
 

@@ -10,7 +10,8 @@ use Rattle.line_words.specs.Items.{kept_word, kept_node}
 use Rattle.line_items.specs.declared.counts.Counts.{Counts}
 use Rattle.file_scripts.specs.Declarations.{is_within, declares_node, declares, declares_word, first_undeclared}
 use Rattle.file_scripts.specs.Laws.{Knows, Tells}
-use Rattle.file_scripts.proofs.TestLemmas.{told, and_both}
+use Rattle.file_laws.proofs.TestLemmas.{both}
+use Rattle.file_scripts.proofs.TestLemmas.{told}
 use Rattle.file_scripts.proofs.NumberLemmas.{kept_within_yes, kept_within_no}
 
 pub replica_there : (before : List Said) (replicas replica : ℕ) → replicas ≡ replicas_of before → replicas ≤ 2 ^ 64 → is_within (kept replica) replicas ≡ true → IsReplica before replica
@@ -42,13 +43,13 @@ turn_there counts before replicas (OfSync replica) k w = replica_there before re
 turn_there counts before replicas (OfWorker replica) k w = replica_there before replicas replica k.number k.few w
 turn_there counts before replicas (OfFurtherWorker replica worker) k w = replica_there before replicas replica k.number k.few w
 turn_there counts before replicas (OfLocal replica session) k w =
-    let both = and_both (is_within (kept replica) replicas) (is_within (kept session) (get_or counts.locals.items (kept replica) 0)) w in
+    let parts = both (is_within (kept replica) replicas) (is_within (kept session) (get_or counts.locals.items (kept replica) 0)) w in
     let locals = k.counted.locals replica in
     let most = k.counted.few_locals replica in
     let few : get_or counts.locals.items (kept replica) 0 ≤ 2 ^ 64 = omega (arith, locals, most) in
-    let h = kept_within_yes session (get_or counts.locals.items (kept replica) 0) few both.1 in
+    let h = kept_within_yes session (get_or counts.locals.items (kept replica) 0) few parts.1 in
     let low = h.0 in let high = h.1 in
-    (replica_there before replicas replica k.number k.few both.0, low, omega (arith, high, locals))
+    (replica_there before replicas replica k.number k.few parts.0, low, omega (arith, high, locals))
 
 pub turn_absent : (counts : Counts) (before : List Said) (replicas : ℕ) (turn : Turn) → Knows counts replicas before → declares counts replicas (kept_turn turn) ≡ false → IsDeclared before turn → ⊥
 turn_absent counts before replicas (OfSession session) k w h =

@@ -4,7 +4,7 @@ use Rattle.std.proofs.lemmas.Bool.Decides.{nat_tests}
 use Rattle.std.proofs.Math.Nat.{min-eq_left, min-eq_right}
 use Rattle.std.specs.Prelude.{◌&&◌, leb}
 use Rattle.line_words.specs.Actors.{kept}
-use Rattle.file_scripts.proofs.TestLemmas.{and_both}
+use Rattle.file_laws.proofs.TestLemmas.{both}
 use Rattle.file_scripts.specs.Declarations.{is_within}
 
 pub kept_choice : (n : ℕ) → ((n < 2 ^ 128) × (kept n ≡ n)) ⊎ ((2 ^ 64 < n) × (2 ^ 64 < kept n))
@@ -35,8 +35,8 @@ kept_back n s = by_choice (kept_choice n)
 
 pub within_yes : (n count : ℕ) → is_within n count ≡ true → (1 ≤ n) × (n ≤ count)
 within_yes n count e =
-    let both = and_both (leb 1 n) (leb n count) e in
-    let low = both.0 in let high = both.1 in
+    let parts = both (leb 1 n) (leb n count) e in
+    let low = parts.0 in let high = parts.1 in
     (grind (arith, nat_tests, low), grind (arith, nat_tests, high))
 
 pub within_no : (n count : ℕ) → is_within n count ≡ false → 1 ≤ n → n ≤ count → ⊥

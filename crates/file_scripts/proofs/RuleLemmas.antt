@@ -10,7 +10,8 @@ use Rattle.file_text.specs.Context.{is_open}
 use Rattle.file_text.specs.Causes.{ends_open, ends_closed, BreaksScript}
 use Rattle.file_scripts.specs.ScriptRules.{may_come, ends_script}
 use Rattle.file_scripts.specs.Laws.{Tells}
-use Rattle.file_scripts.proofs.TestLemmas.{told, and_both}
+use Rattle.file_laws.proofs.TestLemmas.{both}
+use Rattle.file_scripts.proofs.TestLemmas.{told}
 
 step_breaks : (within : Bool) (before : List Said) (step : ScriptStep) → within ≡ is_open before → not (may_come within step) ≡ true → BreaksScript before (StepOf step)
 step_breaks true before Begin e f = inl (sym e, tt)
@@ -86,7 +87,7 @@ not_closed (Schedule words) section of h = h
 not_closed End section of h = h
 
 line_breaks : (before : List Said) (within : Bool) (said : Said) (section : Section) → within ≡ is_open before → section_of said ≡ Some section → (within && ends_script section) ≡ true → BreaksScript before said
-line_breaks before within said section e of f = let both = and_both within (ends_script section) f in inl (sym e ∙ both.0, ends_opens said section of both.1)
+line_breaks before within said section e of f = let parts = both within (ends_script section) f in inl (sym e ∙ parts.0, ends_opens said section of parts.1)
 
 line_keeps : (before : List Said) (within : Bool) (said : Said) (section : Section) → within ≡ is_open before → section_of said ≡ Some section → (within && ends_script section) ≡ false → BreaksScript before said → ⊥
 line_keeps before within said section e of f (inl h) =

@@ -1,4 +1,4 @@
-ghost use Rattle.std.specs.Prelude.{◌≡◌, ◌<◌, ◌^◌, length, get_or};
+ghost use Rattle.std.specs.Prelude.{◌≡◌, ◌<◌, ◌^◌, length};
 ghost use Rattle.file_scripts.specs.Declarations.{is_within as in_order, declares, declares_word, declares_node, first_undeclared as the_first};
 
 use line_items::Counts;
@@ -29,18 +29,6 @@ pub fn node_is_declared(replicas: u32, node: NodeWord) -> bool
     }
 }
 
-/// The LOCAL lines of a replica.
-fn locals_of(counts: &Counts, replica: u128) -> u32
-    ensures { result ≡ get_or counts.now.locals.items replica 0 }
-{
-    let locals = counts.locals.as_slice();
-    if replica < locals.len() as u128 {
-        locals[replica as usize]
-    } else {
-        0
-    }
-}
-
 /// Whether an actor's sessions and replicas are there, behind lines with these counts.
 pub fn is_declared(counts: &Counts, replicas: u32, actor: ActorWord) -> bool
     ensures { result ≡ declares counts.now replicas actor }
@@ -52,7 +40,7 @@ pub fn is_declared(counts: &Counts, replicas: u32, actor: ActorWord) -> bool
         ActorWord::Worker(replica) => is_within(replica, replicas),
         ActorWord::FurtherWorker { replica, worker: _ } => is_within(replica, replicas),
         ActorWord::Local { replica, session } => {
-            let locals = locals_of(counts, replica);
+            let locals = counts.locals_of(replica);
             is_within(replica, replicas) && is_within(session, locals)
         }
     }

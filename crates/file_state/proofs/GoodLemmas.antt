@@ -1,5 +1,5 @@
 -- What a good line is known to be: in order, and behind sections that rise.
-use Rattle.std.proofs.Common.{◌≡◌, ◌⊎◌, ◌<◌, ◌≤◌, ℕ, Bool, true, false, List, [], ◌∷◌, ◌++◌, Option, Some, None, refl, sym, ap, subst, ◌∙◌, arith, inl, inr, leb, leb-true, leb-false}
+use Rattle.std.proofs.Common.{◌≡◌, ◌<◌, ◌≤◌, ℕ, Bool, true, false, List, [], ◌∷◌, ◌++◌, Option, Some, None, refl, sym, ap, subst, ◌∙◌, arith, inl, inr, leb, leb-true, leb-false}
 use Rattle.std.specs.Prelude.{◌||◌}
 use Rattle.std.specs.List.{flat_map}
 use Rattle.std.proofs.lemmas.Bool.Decides.{nat_tests}
@@ -15,6 +15,7 @@ use Rattle.file_text.specs.Causes.{OfLimit, OfLine, IsInOrder, IsGood, at_or_beh
 use Rattle.file_text.specs.File.{row_said}
 use Rattle.file_laws.proofs.FitLemmas.{some_is, none_some}
 use Rattle.file_laws.proofs.SaidLemmas.{view, View, IsSkip, IsOfStep, IsOfSection}
+use Rattle.file_laws.proofs.TestLemmas.{either, le_true}
 use Rattle.cause_laws.proofs.MoreLemmas.{newest, section_more, there_more}
 use Rattle.line_checks.specs.declared.marks.Marks.{Marks}
 use Rattle.line_checks.specs.MarksOf.{IsMarked, in_order}
@@ -41,17 +42,6 @@ good_order section before line said marks m e g = by_test (in_order section mark
 same_rank : (s t : Section) → same_section s (Some t) ≡ true → rank s ≡ rank t
 same_rank s t e = grind (arith, nat_tests, e)
 
-le_test : (a b : ℕ) → a ≤ b → leb a b ≡ true
-le_test a b h = by_test (leb a b) refl
-  where
-    by_test : (x : Bool) → leb a b ≡ x → leb a b ≡ true
-    by_test true e = e
-    by_test false e = let g = leb-false a b e in absurd (omega (arith, h, g))
-
-either : (a b : Bool) → (a || b) ≡ true → (a ≡ true) ⊎ (b ≡ true)
-either true b e = inl refl
-either false b e = inr e
-
 no_later : (last : Option Section) (section next : Section) → is_no_later last section ≡ true → at_or_behind last next ≡ true → rank section ≤ rank next
 no_later None section next e f = absurd cc
 no_later (Some last) section next e f = let a = leb-true (rank section) (rank last) e in let b = leb-true (rank last) (rank next) f in omega (arith, a, b)
@@ -60,7 +50,7 @@ rising_at : (before : List Said) (said : Said) (section next : Section) → sect
     → is_no_later (section_at (before ++ said ∷ [])) section ≡ true
 rising_at before said section next e r o t =
     subst (λ (last : Option Section). is_no_later last section ≡ true) (sym (section_more before said ∙ ap (λ (x : Option Section). newest x (section_at before)) e))
-    (le_test (rank section) (rank next) (elim (either (same_section section (section_of said)) (is_there section before) (sym (there_more section before said) ∙ t)) [
+    (le_true (rank section) (rank next) (elim (either (same_section section (section_of said)) (is_there section before) (sym (there_more section before said) ∙ t)) [
       | inl s ↦ let q = same_rank section next (ap (same_section section) (sym e) ∙ s) in omega (arith, q)
       | inr s ↦ no_later (section_at before) section next (r section s) o
     ]))

@@ -6,16 +6,9 @@ use Rattle.file_text.specs.declared.places.Section.TheVariants.{PtcLines, Replic
 use Rattle.file_text.specs.Said.{Said}
 use Rattle.file_text.specs.Causes.{needs, at_or_behind, IsInOrder}
 use Rattle.file_laws.proofs.FitLemmas.{true_false}
+use Rattle.file_laws.proofs.TestLemmas.{both, and_true}
 use Rattle.line_checks.specs.declared.marks.Marks.{Marks}
 use Rattle.line_checks.specs.MarksOf.{IsMarked, has_needed, has_what_it_needs, in_order}
-
-both : (a b : Bool) → (a && b) ≡ true → (a ≡ true) × (b ≡ true)
-both true true e = (refl, refl)
-both true false e = absurd cc
-both false b e = absurd cc
-
-and_true : (a b : Bool) → a ≡ true → b ≡ true → (a && b) ≡ true
-and_true a b e f = ap (λ (x : Bool). x && b) e ∙ f
 
 met : (need there : Bool) → has_needed need there ≡ true → need ≡ true → there ≡ true
 met true there e f = e

@@ -1,7 +1,8 @@
 -- ROW lines: rows that are there, that do not fit, and nodes and tables that are not declared.
-use Rattle.std.proofs.Common.{◌≡◌, ◌<◌, ◌≤◌, ◌^◌, ℕ, zero, suc, Bool, true, false, List, [], ◌∷◌, map, length, take, Option, Some, None, refl, sym, ap, subst, ◌∙◌, arith, leb, leb-true, leb-false, slice_index_or}
-use Rattle.std.specs.Prelude.{MatchOption, ◌&&◌, if◌then◌else◌}
+use Rattle.std.proofs.Common.{◌≡◌, ◌<◌, ◌≤◌, ◌^◌, ℕ, zero, suc, Bool, true, false, List, map, length, take, Option, Some, None, refl, sym, ap, subst, ◌∙◌, arith, leb, leb-true, slice_index_or}
+use Rattle.std.specs.Prelude.{MatchOption, if◌then◌else◌}
 use Rattle.std.specs.List.{AllByRecursion}
+use Rattle.std.proofs.lemmas.List.{length-map}
 use Rattle.row_types.specs.declared.table_schema.Schema.{Schema}
 use Rattle.row_types.specs.declared.row_faults.RowFault.{RowFault}
 use Rattle.row_types.specs.Faults.{IsShort, TextIsShort, row_fault}
@@ -17,6 +18,7 @@ use Rattle.line_checks.specs.declared.line_faults.LineFault.{LineFault}
 use Rattle.line_checks.specs.declared.marks.Marks.{Marks}
 use Rattle.line_checks.specs.MarksOf.{IsMarked}
 use Rattle.file_laws.proofs.FitLemmas.{some_is, none_some, true_false}
+use Rattle.file_laws.proofs.TestLemmas.{both, and_true, le_true}
 use Rattle.file_rows.specs.declared.file_tables.FileTable.{FileTable}
 use Rattle.file_rows.specs.NodeRows.{any_has}
 use Rattle.file_rows.specs.Holds.{HoldsRows}
@@ -62,37 +64,18 @@ unknown_decided marks tables line row result few p e before node table literals 
 
 -- ---- a table that is there
 
-both : (a b : Bool) → (a && b) ≡ true → (a ≡ true) × (b ≡ true)
-both true true e = (refl, refl)
-both true false e = absurd cc
-both false b e = absurd cc
-
-and_true : (a b : Bool) → a ≡ true → b ≡ true → (a && b) ≡ true
-and_true a b e f = ap (λ (x : Bool). x && b) e ∙ f
-
-same_length : (literals : List Literal) → length (map value_of literals) ≡ length literals
-same_length [] = refl
-same_length (literal ∷ literals) = ap suc (same_length literals)
-
 twice_told : (before : List Said) (table : FileTable) (node : Node) (name : List ℕ) (literals : List Literal) → replicas_of before < 2 ^ 32 → TableAt before name table → Tells (row_twice table (row_said node name literals)) (IsSaidAgain before (RowOf node name literals))
 twice_told before table node name literals few t = by_test (row_twice table (row_said node name literals)) refl
   where
     by_test : (b : Bool) → row_twice table (row_said node name literals) ≡ b → Tells b (RowIsThere before node name literals)
     by_test true e =
         let p = both (leb table.schema.key_len (length (map value_of literals))) (any_has (kept_node node) (take table.schema.key_len (map value_of literals)) 0 table.nodes.items) e in
-        said_there before node name literals table t few (subst (λ (n : ℕ). table.schema.key_len ≤ n) (same_length literals) (leb-true table.schema.key_len (length (map value_of literals)) p.0)) p.1
+        said_there before node name literals table t few (subst (λ (n : ℕ). table.schema.key_len ≤ n) (length-map literals value_of) (leb-true table.schema.key_len (length (map value_of literals)) p.0)) p.1
     by_test false e = λ w.
         let p = there_said before node name literals table t few w in
         true_false (row_twice table (row_said node name literals))
         (and_true (leb table.schema.key_len (length (map value_of literals))) (any_has (kept_node node) (take table.schema.key_len (map value_of literals)) 0 table.nodes.items)
-        (le_true table.schema.key_len (length (map value_of literals)) (subst (λ (n : ℕ). table.schema.key_len ≤ n) (sym (same_length literals)) p.0)) p.1) e
-      where
-        le_true : (a b : ℕ) → a ≤ b → leb a b ≡ true
-        le_true a b l = by_leb (leb a b) refl
-          where
-            by_leb : (x : Bool) → leb a b ≡ x → leb a b ≡ true
-            by_leb true f = f
-            by_leb false f = let g = leb-false a b f in absurd (omega (arith, l, g))
+        (le_true table.schema.key_len (length (map value_of literals)) (subst (λ (n : ℕ). table.schema.key_len ≤ n) (sym (length-map literals value_of)) p.0)) p.1) e
 
 row_told : (before : List Said) (table : FileTable) (node : Node) (name : List ℕ) (literals : List Literal) → TableAt before name table
     → MatchOption (row_fault table.schema (map value_of literals)) (RowFits before (RowOf node name literals)) (λ fault. MisfitsRow before (RowOf node name literals) fault)

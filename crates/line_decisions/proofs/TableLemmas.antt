@@ -1,5 +1,6 @@
 -- TABLE lines: a name that is there, and columns of one name.
 use Rattle.std.proofs.Common.{◌≡◌, ℕ, Bool, true, false, List, [], ◌∷◌, ◌++◌, map, Option, Some, None, refl, sym, ap, ◌∙◌, inl, inr}
+use Rattle.file_laws.proofs.TestLemmas.{or_right, or_left}
 use Rattle.std.specs.Prelude.{◌||◌, is_some, bytes_eq}
 use Rattle.file_text.specs.declared.places.Section.TheVariants.{TableLines}
 use Rattle.file_text.specs.Said.{Said, TableOf, ColumnText}
@@ -35,14 +36,6 @@ named_there name (column ∷ columns) e = by_test (bytes_eq column.name name) re
     by_test : (b : Bool) → bytes_eq column.name name ≡ b → (b || any_named name (map column_of columns)) ≡ true → (any_named name (map column_of columns) ≡ true → Named name columns) → Named name (column ∷ columns)
     by_test true t f go = record { front = []; column = column; back = columns; are = refl; same = sym ((bytes_eq-Decides column.name name).0 t) }
     by_test false t f go = let n = go f in record { front = column ∷ n.front; column = n.column; back = n.back; are = ap (λ (l : List ColumnText). column ∷ l) n.are; same = n.same }
-
-or_right : (a b : Bool) → b ≡ true → (a || b) ≡ true
-or_right true b e = refl
-or_right false b e = e
-
-or_left : (a b : Bool) → a ≡ true → (a || b) ≡ true
-or_left true b e = refl
-or_left false b e = absurd cc
 
 there_named : (name : List ℕ) (front : List ColumnText) (column : ColumnText) (back : List ColumnText) → name ≡ column.name → any_named name (map column_of (front ++ column ∷ back)) ≡ true
 there_named name [] column back e = or_left (bytes_eq column.name name) (any_named name (map column_of back)) ((bytes_eq-Decides column.name name).1 (sym e))

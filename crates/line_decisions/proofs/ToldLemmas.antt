@@ -6,6 +6,7 @@ use Rattle.file_text.specs.declared.faults.LineCause.TheVariants.{Actor}
 use Rattle.file_text.specs.declared.places.Section.{Section}
 use Rattle.file_text.specs.Said.{Said, section_of}
 use Rattle.file_text.specs.Causes.{OfLine, IsSaidAgain, IsOtherLevel, BreaksScript, Undeclared}
+use Rattle.file_laws.proofs.FitLemmas.{true_false}
 use Rattle.cause_laws.specs.Clear.{NotAgain, NoOtherLevel, MisfitsRow, RowFits, KeepsScript, NamesDeclared, IsTwice, IsLevel, IsRow, IsScript, IsActor}
 use Rattle.line_checks.specs.declared.line_faults.LineFault.{LineFault}
 use Rattle.line_checks.specs.declared.marks.Marks.{Marks}
@@ -67,8 +68,4 @@ script_told section before said marks m o = lines_told before marks.in_transacti
 -- a mark tells what it is a mark of
 pub there_told : (b c : Bool) → b ≡ c → Tells b (c ≡ true)
 there_told true c e = sym e
-there_told false c e = λ f. absurd (clash c e f)
-  where
-    clash : (c : Bool) → false ≡ c → c ≡ true → ⊥
-    clash true e f = cc
-    clash false e f = cc
+there_told false c e = λ f. true_false c f (sym e)

@@ -12,7 +12,7 @@ use Rattle.file_text.specs.declared.places.ColumnSpot.{ColumnSpot}
 use Rattle.file_text.specs.declared.places.ColumnSpot.TheVariants.{FirstColumn, SecondColumn, FurtherColumn}
 use Rattle.file_text.specs.declared.places.Spot.{Spot}
 use Rattle.file_text.specs.declared.places.Spot.TheVariants.{SectionDue, WorkloadDue, VersionDue, LevelDue, ReadDue, CommittedDue, CountDue, TableDue, ColumnsDue, ColumnDue, KindDue, LengthOpens, LengthDue, LengthCloses, MarkDue, NullDue, CommaDue, NodeDue, RowTableDue, RowOpens, LiteralDue, DigitsDue, LiteralEnds, SessionDue, LocalDue, TurnsDue, NothingDue}
-use Rattle.file_text.specs.Said.{Item, Word, Sign, Name, Version, Count, Length, NodeWord, SessionWord, LocalWord, Turns, Digits, Quote, Turn, OfSession, OfTool, OfSync, OfWorker, OfFurtherWorker, OfLocal, spelling, IsDecimal, IsLed, IsTurn, IsItem}
+use Rattle.file_text.specs.Said.{Item, Word, Sign, Name, Version, Count, Length, NodeWord, SessionWord, LocalWord, Turns, Digits, Quote, Turn, OfLocal, spelling, IsDecimal, IsLed, IsTurn, IsItem}
 use Rattle.file_text.specs.Spots.{when, opens_section, first_spot, next_column, moved}
 use Rattle.file_text.proofs.WordLemmas.{turn_once}
 use Rattle.line_words.specs.Numbers.{Capped}
@@ -22,7 +22,7 @@ use Rattle.line_words.specs.declared.items.ItemWord.{ItemWord}
 use Rattle.line_words.specs.declared.nodes.NodeWord.{NodeWord as NodeFound}
 use Rattle.line_words.specs.Actors.{kept, kept_turn, IsActorWord, NoActor}
 use Rattle.line_words.specs.Items.{IsItemWord, NoItem, IsNodeWord, NoNode}
-use Rattle.line_items.specs.declared.found_items.LineItem.{LineItem}
+use Rattle.file_laws.proofs.FitLemmas.{true_false}
 use Rattle.line_items.specs.declared.found_items.LineItem.TheVariants as i
 use Rattle.line_items.specs.declared.found_items.FoundItem.{FoundItem}
 use Rattle.line_items.specs.Items.{kept_item, IsItemAt, NoItemAt}
@@ -130,9 +130,6 @@ local_found text replica session w = by_turn w.turn w.is w.kept
 
 -- ---- what is none
 
-clash : (b : Bool) → b ≡ true → b ≡ false → ⊥
-clash b e f = cc
-
 none_some : (spot next : Spot) (o : Option Spot) → o ≡ None → o ≡ Some next → ⊥
 none_some spot next o e f = cc
 
@@ -157,7 +154,7 @@ same_section ScheduleLines _ next m = absurd cc
 same_section EndLines _ next m = absurd cc
 
 pub no_section : (section : Section) (text : List ℕ) → str_eq_ignore_ascii_case (spelling (First section)) text ≡ false → NoItemAt (SectionDue section) text
-no_section section text e (Word (First other)) next m is = clash (str_eq_ignore_ascii_case (spelling (First section)) text) (ap (λ (s : Section). str_eq_ignore_ascii_case (spelling (First s)) text) (sym (same_section section other next m)) ∙ is) e
+no_section section text e (Word (First other)) next m is = true_false (str_eq_ignore_ascii_case (spelling (First section)) text) (ap (λ (s : Section). str_eq_ignore_ascii_case (spelling (First s)) text) (sym (same_section section other next m)) ∙ is) e
 no_section section text e _ next m is = cc
 
 pub no_workload : (text : List ℕ) → str_eq_ignore_ascii_case (spelling WorkloadWord) text ≡ false → NoItemAt WorkloadDue text
@@ -291,7 +288,7 @@ no_plain_literal text e sign digits = record { no_null = e; no_sign = sign; no_d
 pub no_literal : (text : List ℕ) → NoPlainLiteral text → ((content : List ℕ) → IsQuoted content text → ⊥) → NoItemAt LiteralDue text
 no_literal text plain none (Digits n) next m is = plain.no_digits n is
 no_literal text plain none (Quote content) next m is = none content is
-no_literal text plain none (Word NullKeyword) next m is = clash (str_eq_ignore_ascii_case (spelling NullKeyword) text) is plain.no_null
+no_literal text plain none (Word NullKeyword) next m is = true_false (str_eq_ignore_ascii_case (spelling NullKeyword) text) is plain.no_null
 no_literal text plain none (Sign sign) next m is = other_sign sign 45 text plain.no_sign is (when_sign sign 45 DigitsDue next m)
 no_literal text plain none _ next m is = cc
 
@@ -302,9 +299,6 @@ no_digits text none _ next m is = cc
 pub no_literal_end : (text : List ℕ) → (text ≡ 44 ∷ [] → ⊥) → (text ≡ 41 ∷ [] → ⊥) → NoItemAt LiteralEnds text
 no_literal_end text comma close (Sign sign) next m is = no_either sign 44 41 text comma close is (either_sign sign 44 41 LiteralDue NothingDue next m)
 no_literal_end text comma close _ next m is = cc
-
-pub nothing_due : (text : List ℕ) → NoItemAt NothingDue text
-nothing_due text _ next m is = cc
 
 other_turn : (replica session : ℕ) (found : ActorWord) → is_local found ≡ false → found ≡ a.Local replica session → ⊥
 other_turn replica session (a.Local m n) e f = cc

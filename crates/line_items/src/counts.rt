@@ -27,8 +27,8 @@ impl Counts {
         }
     }
 
-    /// The LOCAL lines of a replica.
-    pub(crate) fn locals_of(&self, replica: u128) -> u32
+    /// The LOCAL lines of a replica; 0 for a number that no replica has.
+    pub fn locals_of(&self, replica: u128) -> u32
         ensures { result ≡ get_or self.now.locals.items replica 0 }
     {
         let locals = self.locals.as_slice();

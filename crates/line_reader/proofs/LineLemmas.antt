@@ -5,16 +5,15 @@ use Rattle.std.specs.List.{AllByRecursion}
 use Rattle.row_types.specs.declared.table_schema.Schema.{Schema}
 use Rattle.ptc_statement.specs.declared.scripts.ScriptStep.{ScriptStep}
 use Rattle.statement_grammar.specs.declared.text_faults.TextFault.{TextFault}
-use Rattle.file_text.specs.declared.faults.LineCause.TheVariants.{AfterEnd, Form, Statement as StatementCause}
-use Rattle.file_text.specs.Parts.{words_of, past_end}
+use Rattle.file_text.specs.declared.faults.LineCause.TheVariants.{Statement as StatementCause}
 use Rattle.file_text.specs.Said.{Said, Skipped, Header, Isolation, Replicas, TableOf, RowOf, SessionOf, LocalOf, StepOf, Schedule, End}
 use Rattle.file_text.specs.Context.{schemas_of, is_script}
-use Rattle.file_text.specs.Rules.{OpensNone, IsSkipped, next_place}
-use Rattle.file_text.specs.Causes.{OfLine, IsRefused, tables_in}
+use Rattle.file_text.specs.Rules.{OpensNone, IsSkipped}
+use Rattle.file_text.specs.Causes.{tables_in}
 use Rattle.cause_laws.specs.Clear.{Clear}
 use Rattle.cause_laws.proofs.LimitLemmas.{none_clear}
-use Rattle.cause_laws.proofs.LineLemmas.{ended_refused, not_ended, skipped_good}
-use Rattle.cause_laws.proofs.StepLemmas.{outside_refused, inside_clear, statement_refused}
+use Rattle.cause_laws.proofs.LineLemmas.{not_ended, skipped_good}
+use Rattle.cause_laws.proofs.StepLemmas.{inside_clear, statement_refused}
 use Rattle.line_checks.specs.declared.line_faults.LineFault.{LineFault}
 use Rattle.line_checks.specs.declared.line_faults.LineFault.TheVariants.{Cause}
 use Rattle.statement_reads.specs.Reads.{are_countable}
@@ -42,14 +41,6 @@ skipped_read number line old new short s l before k n =
 
 clear_9 : (state : FileState) (before : List Said) (line : List ℕ) → Keeps state before → OpensNone line → length line ≤ 65535 → state.marks.ended ≡ false → Clear 9 before line
 clear_9 state before line k o short e = not_ended before line (none_clear before line o short) (sym k.marked.ended ∙ e)
-
-pub ended_read : (number : ℕ) (line : List ℕ) (old new : FileState) → length line ≤ 65535 → OpensNone line → old.marks.ended ≡ true → Reads number line old new (Some (Cause AfterEnd))
-ended_read number line old new short o e before k n = ended_refused before line o.counts (none_clear before line o short) (sym k.marked.ended ∙ e)
-
-pub outside_read : (number place : ℕ) (line : List ℕ) (old new : FileState) → length line ≤ 65535 → OpensNone line → place ≡ next_place (past_end line) (words_of line) → old.marks.ended ≡ false → is_script old.marks.last ≡ false
-    → Reads number line old new (Some (Cause (Form place)))
-outside_read number place line old new short o p e i before k n =
-    subst (λ (m : ℕ). IsRefused before line (OfLine (Form m))) (sym p) (outside_refused before line o (clear_9 old before line k o short e) (ap is_script (sym k.marked.last) ∙ i))
 
 inside_14 : (state : FileState) (before : List Said) (line : List ℕ) → Keeps state before → OpensNone line → length line ≤ 65535 → state.marks.ended ≡ false → is_script state.marks.last ≡ true → Clear 14 before line
 inside_14 state before line k o short e i = inside_clear before line o (clear_9 state before line k o short e) (ap is_script (sym k.marked.last) ∙ i)

@@ -2,7 +2,7 @@
 use Rattle.std.proofs.Common.{◌≡◌, ◌≤◌, ◌+◌, ◌-◌, ℕ, zero, suc, Bool, true, false, List, [], ◌∷◌, ◌++◌, map, length, take, refl, ap, arith}
 use Rattle.std.specs.Prelude.{if◌then◌else◌, ◌==◌}
 use Rattle.std.specs.List.{AllByRecursion}
-use Rattle.std.proofs.lemmas.List.{length-append}
+use Rattle.std.proofs.lemmas.List.{length-append, length-map}
 use Rattle.row_types.specs.Faults.{TextIsShort}
 use Rattle.statement_tokens.specs.Spellings.{doubled, IsQuoted}
 use Rattle.file_text.specs.Parts.{Part, is_sign, touches, joined, tokens_within, behind_token, front_to, row_parts_from, row_parts_of}
@@ -105,10 +105,6 @@ all_long : (literals : List Literal) → length literals ≤ length (literals_it
 all_long [] = omega arith
 all_long (literal ∷ literals) = let h = more_long literals in let l = literal_long literal (more_literals literals) in omega (arith, h, l)
 
-map_length : {A B : Type 0} (f : A → B) (xs : List A) → length (map f xs) ≡ length xs
-map_length f [] = refl
-map_length f (x ∷ xs) = ap suc (map_length f xs)
-
 doubled_long : (content : List ℕ) → length content ≤ length (doubled content)
 doubled_long [] = omega arith
 doubled_long (byte ∷ bytes) = by_quote (byte == 39) (doubled_long bytes)
@@ -175,5 +171,5 @@ row_values first second third fourth literals line short s =
     let e = spelled_length (first ∷ second ∷ third ∷ fourth ∷ literals_items literals) (row_parts_of line) s in
     let f = row_few 1 line in
     let l = all_long literals in
-    let m = map_length value_of literals in
+    let m = length-map literals value_of in
     omega (arith, short, e, f, l, m)

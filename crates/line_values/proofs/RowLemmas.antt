@@ -24,10 +24,6 @@ use Rattle.line_values.specs.Rows.{row_behind, row_on, row_in, with_value}
 pub last_first : (row : RowText) (items : List LineItem) (item : LineItem) → row_on row (reverse (items ++ item ∷ [])) ≡ row_on (row_behind row item) (reverse items)
 last_first row items item = ap (row_on row) (reverse-append items (item ∷ []))
 
-row_on_append : (row : RowText) (xs ys : List LineItem) → row_on row (xs ++ ys) ≡ row_on (row_on row xs) ys
-row_on_append row [] ys = refl
-row_on_append row (x ∷ xs) ys = row_on_append (row_behind row x) xs ys
-
 -- ---- numbers in their range are kept
 
 kept_small : (n : ℕ) → n ≤ 2 ^ 128 - 1 → kept n ≡ n

@@ -1,7 +1,8 @@
 -- The form that a TABLE line gives is a schema of at most 16 columns.
-use Rattle.std.proofs.Common.{◌≡◌, ◌≤◌, ◌<◌, ◌+◌, ℕ, suc, Bool, true, false, List, [], ◌∷◌, ◌++◌, map, length, take, refl, sym, ap, subst, ◌∙◌, arith, append_assoc, append-nil, leb, leb-true, leb-false}
+use Rattle.std.proofs.Common.{◌≡◌, ◌≤◌, ◌<◌, ◌+◌, ℕ, Bool, true, false, List, [], ◌∷◌, ◌++◌, map, length, take, refl, sym, ap, subst, ◌∙◌, arith, append_assoc, append-nil, leb, leb-true, leb-false}
 use Rattle.std.specs.Prelude.{if◌then◌else◌}
 use Rattle.std.specs.List.{AllByRecursion}
+use Rattle.std.proofs.lemmas.List.{length-map}
 use Rattle.row_types.specs.declared.table_schema.Column.{Column}
 use Rattle.row_types.specs.declared.table_schema.ColumnKind.{ColumnKind}
 use Rattle.row_types.specs.declared.table_schema.ColumnKind.TheVariants.{Int as IntColumn, BigInt, Text as TextColumn}
@@ -82,14 +83,10 @@ lengths_fit : (columns : List ColumnText) → AllByRecursion ColumnIsShort colum
 lengths_fit [] h = tt
 lengths_fit (column ∷ columns) h = (kind_fits column.kind h.0, lengths_fit columns h.1)
 
-map_length : (columns : List ColumnText) → length (map column_of columns) ≡ length columns
-map_length [] = refl
-map_length (column ∷ columns) = ap suc (map_length columns)
-
 is_schema : (name : List ℕ) (columns : List ColumnText) → KeysFirst columns → AllByRecursion ColumnIsShort columns → IsSchema (schema_of name columns)
 is_schema name columns k s =
     let f = key_facts columns k in
-    record { key = f.some; most = f.most; within = subst (λ (n : ℕ). keys_in columns ≤ n) (sym (map_length columns)) f.within; lengths = lengths_fit columns s; not_null = f.not_null }
+    record { key = f.some; most = f.most; within = subst (λ (n : ℕ). keys_in columns ≤ n) (sym (length-map columns column_of)) f.within; lengths = lengths_fit columns s; not_null = f.not_null }
 
 -- ---- the limit on columns
 
@@ -183,5 +180,5 @@ pub table_fits : (before : List Said) (parts : List Part) (name : List ℕ) (col
     → IsUnder TableLines before parts → IsSchema (schema_of name columns) × (length (map column_of columns) ≤ 16)
 table_fits before parts name columns k s r u =
     let f = few_columns before parts name columns k s r u in
-    let m = map_length columns in
+    let m = length-map columns column_of in
     (is_schema name columns k (columns_short before _ columns r.1.1.1), omega (arith, f, m))

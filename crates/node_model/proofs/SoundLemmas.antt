@@ -1,30 +1,28 @@
 -- What the next visit of a statement takes and passes, for each kind of statement.
-use Rattle.std.proofs.Common.{◌≡◌, ◌≢◌, ◌⊎◌, inl, inr, ℕ, List, [], ◌∷◌, ◌&&◌, ◌==◌, Bool, true, false, not, cond, Option, None, Some, refl, sym, ap, subst, ◌∙◌}
-use Rattle.std.specs.Prelude.{is_some, IsSome}
-use Rattle.std.specs.List.{slice_get}
+use Rattle.std.proofs.Common.{◌≡◌, ◌⊎◌, inl, inr, ℕ, List, Bool, true, false, not, Option, None, Some, refl, sym, ap, subst, ◌∙◌}
+use Rattle.std.specs.Prelude.{is_some}
 use Rattle.std.specs.Option.{option_map_or}
 use Rattle.row_types.specs.declared.values.Value.{Value}
 use Rattle.row_types.specs.declared.table_schema.Schema.{Schema}
 use Rattle.row_types.specs.declared.lock_modes.LockMode.{LockMode}
 use Rattle.row_types.specs.declared.lock_modes.LockMode.TheVariants.{Shared, Exclusive}
 use Rattle.row_types.specs.declared.edges.Edge.{Edge}
-use Rattle.row_types.specs.declared.edges.Edge.TheVariants.{Low, Before, After, High}
+use Rattle.row_types.specs.declared.edges.Edge.TheVariants.{After}
 use Rattle.row_types.specs.declared.edges.Span.{Span}
-use Rattle.row_types.specs.Order.{edge_le, has, is_past_edge, is_before_edge}
+use Rattle.row_types.specs.Order.{has, is_past_edge, is_before_edge}
 use Rattle.row_types.specs.Fit.{key_of}
 use Rattle.row_types.proofs.SpanLemmas.{past_or_before}
 use Rattle.ptc_statement.specs.declared.statements.Statement.{Statement}
 use Rattle.ptc_statement.specs.declared.statements.Statement.TheVariants.{Insert, Replace, Delete, Update, LockRead, Check, SetMaster, ClearChecks}
-use Rattle.ptc_statement.specs.Reach.{reach_of, just_key}
-use Rattle.ptc_statement.specs.Effect.{table_of}
+use Rattle.ptc_statement.specs.Reach.{reach_of}
 use Rattle.ptc_statement.proofs.KeyLemmas.{itself_alone}
 use Rattle.lock_table.specs.Stops.{IsAmong}
 use Rattle.txn_walk.specs.declared.plans.Plan.{Plan}
 use Rattle.txn_walk.specs.Plans.{row_visit, no_visit, walk_visit, next_visit}
 use Rattle.node_model.specs.Node.{act}
 use Rattle.node_model.specs.LockFacts.{Walks}
-use Rattle.node_model.proofs.ActLemmas.{ChangesNone, act_none_changed, insert_present}
-use Rattle.node_model.proofs.PlanLemmas.{InGap, Takes, Passes, walk_passes, IsVisited, walk_stop, walk_gap, walk_onward}
+use Rattle.node_model.proofs.ActLemmas.{act_none_changed, insert_present}
+use Rattle.node_model.proofs.PlanLemmas.{Takes, Passes, walk_passes, walk_stop, walk_gap, walk_onward}
 
 -- what a plan takes at a key that it passes
 abbrev pub Covering : (List Value → Bool) → Plan → Statement → List Value → Type 0
@@ -66,10 +64,6 @@ walks_passes mode reach cursor stops key over passes = at (is_before_edge cursor
     at : (b : Bool) → is_before_edge cursor key ≡ b → (is_before_edge cursor key ≡ true) ⊎ Takes mode (walk_visit mode reach cursor stops) key
     at true e = inl e
     at false e = inr (walk_passes mode reach cursor stops key over (past_or_before cursor key ∙ ap not e) passes)
-
-beside : {A B C : Type 0} → C → A ⊎ B → (C × A) ⊎ B
-beside c (inl a) = inl (c, a)
-beside c (inr b) = inr b
 
 walk_sound : (schema : Schema) (stops : List (List Value)) (live : List Value → Bool) (statement : Statement) (mode : LockMode) (reach : Span) (cursor : Edge)
     → Walks statement → reach_of schema statement ≡ reach

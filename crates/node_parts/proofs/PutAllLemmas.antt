@@ -1,5 +1,5 @@
 -- Putting back all that is noted leads from the live rows to the committed ones.
-use Rattle.std.proofs.Common.{◌≡◌, ◌≢◌, ◌⊎◌, inl, inr, ◌∙◌, ℕ, zero, suc, ◌+◌, ◌==◌, ◌&&◌, Bool, true, false, cond, List, [], ◌∷◌, ◌++◌, Option, None, Some, length, take, refl, ap, sym, subst, arith}
+use Rattle.std.proofs.Common.{◌≡◌, ◌≢◌, ◌⊎◌, inl, inr, ◌∙◌, ℕ, zero, suc, ◌+◌, ◌==◌, ◌&&◌, Bool, true, false, cond, List, [], ◌∷◌, ◌++◌, Option, None, Some, take, refl, ap, sym, subst, arith}
 use Rattle.std.specs.Prelude.{IfSome, option_and_then}
 use Rattle.std.specs.List.{slice_get, AllByRecursion}
 use Rattle.row_types.specs.declared.values.Value.{Value}
@@ -125,10 +125,6 @@ notes_keyed parts number schema live kept found there = each parts.notes.notes k
     each : (notes : List Note) → AllByRecursion (NoteFits parts.schemas.tables) notes → AllByRecursion (NoteIsKeyed number live.key_len) notes
     each [] fit = tt
     each (note ∷ notes) fit = (keyed note fit.0, each notes fit.1)
-
-take_whole : (notes : List Note) → take (length notes) notes ≡ notes
-take_whole [] = refl
-take_whole (note ∷ notes) = ap (λ (ns : List Note). note ∷ ns) (take_whole notes)
 
 all_more : (notes : List Note) (last : Note) → noted_all (notes ++ last ∷ []) ≡ noted_all notes ++ noted_as last ∷ []
 all_more [] last = refl

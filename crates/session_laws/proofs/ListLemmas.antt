@@ -61,10 +61,6 @@ rise_above (x ∷ xs) line ys rise = rise_above xs line ys rise.1
 
 -- one number more among others
 
-among_apart : (b : Bool) → (false || b) ≡ b
-among_apart true = refl
-among_apart false = refl
-
 pub among_more : (number x : ℕ) (numbers : List ℕ) → number ≢ x → is_among number (numbers ++ x ∷ []) ≡ is_among number numbers
 among_more number x [] apart = ap (λ (b : Bool). b || false) (other_number number x apart)
 among_more number x (n ∷ ns) apart = ap (λ (b : Bool). (number == n) || b) (among_more number x ns apart)
@@ -101,15 +97,6 @@ whole_after_run inside line lines run whole = at line.step run whole
     at (Run statement) r w = w
     at Commit r w = absurd r
     at Rollback r w = absurd r
-
-pub whole_after_end : (line : ScriptLine) (lines : List ScriptLine) → IsEnd line.step → is_whole true (line ∷ lines) ≡ true → is_whole false lines ≡ true
-whole_after_end line lines end whole = at line.step end whole
-  where
-    at : (step : ScriptStep) → IsEnd step → goes_on true step (λ (after : Bool). is_whole after lines) ≡ true → is_whole false lines ≡ true
-    at Begin r w = absurd r
-    at (Run statement) r w = absurd r
-    at Commit r w = w
-    at Rollback r w = w
 
 -- the end of a transaction that is open
 pub record Ends (lines : List ScriptLine) : Type 0 where
