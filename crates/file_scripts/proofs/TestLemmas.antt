@@ -5,4 +5,3 @@ use Rattle.file_scripts.specs.Laws.{Tells}
 pub told : (is : Bool) (Holds : Type 0) → (is ≡ true → Holds) → (is ≡ false → Holds → ⊥) → Tells is Holds
 told true Holds so never = so refl
 told false Holds so never = never refl
-

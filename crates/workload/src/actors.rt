@@ -1,6 +1,6 @@
 ghost use Rattle.std.specs.Prelude.{◌≡◌, ◌↔◌, IsTrue, IfOk};
 
-use row_types::R;
+use row_types::{Items, Plain, R};
 use std::alloc::Global;
 
 /// Who takes turns. All are numbered from 1.
@@ -18,6 +18,9 @@ pub enum Actor {
     Local { replica: u32, session: u32 },
 }
 
+/// Actors, one behind the other.
+pub type Actors = Items<Actor>;
+
 impl Actor {
     pub fn copy(&self, _alloc: Global) -> R<Actor>
         ensures { IfOk result (λ copy. copy ≡ self.now) }
@@ -29,5 +32,15 @@ impl Actor {
         ensures { IsTrue result ↔ (self.now ≡ other.now) }
     {
         *self == *other
+    }
+}
+
+impl Plain for Actor {
+    fn copy(&self, alloc: Global) -> R<Actor> {
+        Actor::copy(self, alloc)
+    }
+
+    fn same(&self, other: &Actor) -> bool {
+        Actor::same(self, other)
     }
 }

@@ -1,6 +1,7 @@
 //! Copies: each is the same as what it was made from, and not the same as another.
-use crate::{Actor, Item, Schedule};
-use row_types::R;
+use crate::{Actor, Copies, Item, LocalScripts, Schedule, Workload};
+use ptc_statement::Scripts;
+use row_types::{R, SchemaList, Schemas, Tables};
 use std::alloc::Global;
 use std::test::Fail;
 
@@ -52,5 +53,30 @@ fn schedules_are_copied(rt: HostRuntime) -> Result<(), Fail> {
     assert!(rt; copy.same(&schedule) && copy.len() == 9);
     copy.push(Item::StopTool)?;
     assert!(rt; !copy.same(&schedule));
+    Ok(())
+}
+
+fn workload(alloc: Global, replicas: u32) -> Workload {
+    Workload {
+        schemas: Schemas {
+            tables: SchemaList::new(alloc),
+        },
+        replicas,
+        source: Tables::new(alloc),
+        copies: Copies::new(alloc),
+        sessions: Scripts::new(alloc),
+        locals: LocalScripts::new(alloc),
+        schedule: Schedule::new(alloc),
+    }
+}
+
+#[test]
+fn workloads_are_copied(rt: HostRuntime) -> Result<(), Fail> {
+    let alloc = rt.alloc();
+    let two = workload(alloc, 2);
+    let mut copy = two.copy(alloc)?;
+    assert!(rt; copy.same(&two) && !copy.same(&workload(alloc, 3)));
+    copy.schedule.push(Item::StopTool)?;
+    assert!(rt; !copy.same(&two));
     Ok(())
 }
