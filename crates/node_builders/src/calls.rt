@@ -1,3 +1,4 @@
+ghost use Rattle.std.specs.Prelude.{◌≡◌};
 ghost use Rattle.node_parts.specs.Views.{IsIdle};
 ghost use Rattle.node_builders.specs.Asked.{When, CanStart, CanGoOn};
 
@@ -10,9 +11,13 @@ use row_types::R;
 use statement_log::Origin;
 use std::alloc::Global;
 
+// No call changes the schemas of the node.
+
 /// Begins a transaction where the owner has none: whether it had none.
-#[tactic(auto, using(node_engine::proofs::AskLemmas::not_begun))]
-pub fn begin(alloc: Global, node: &mut Node, owner: Owner, part: Part) -> R<bool> {
+#[tactic(auto, using(node_engine::proofs::AskLemmas::not_begun, crate::proofs::NodeLemmas::begun_same))]
+pub fn begin(alloc: Global, node: &mut Node, owner: Owner, part: Part) -> R<bool>
+    ensures schemas { node.new.schemas ≡ node.old.schemas }
+{
     if node.is_begun(owner) {
         return Ok(false);
     }
@@ -22,7 +27,10 @@ pub fn begin(alloc: Global, node: &mut Node, owner: Owner, part: Part) -> R<bool
 
 /// Starts a statement where the owner has a transaction and none in progress, and where `fits` says that
 /// it fits: whether that was so.
-pub fn start(alloc: Global, node: &mut Node, owner: Owner, statement: Statement) -> R<bool> {
+#[tactic(auto, using(crate::proofs::NodeLemmas::call_same))]
+pub fn start(alloc: Global, node: &mut Node, owner: Owner, statement: Statement) -> R<bool>
+    ensures schemas { node.new.schemas ≡ node.old.schemas }
+{
     if !can_start(node, owner, &statement) {
         return Ok(false);
     }
@@ -63,8 +71,10 @@ fn is_idle(node: &Node, owner: Owner) -> bool
 }
 
 /// The next visit of an owner, none where it has no statement in progress.
-#[tactic(auto, using(node_engine::proofs::AskLemmas::under_way_when))]
-pub fn visit(alloc: Global, node: &mut Node, owner: Owner) -> R<Option<Visit>> {
+#[tactic(auto, using(node_engine::proofs::AskLemmas::under_way_when, crate::proofs::NodeLemmas::call_same))]
+pub fn visit(alloc: Global, node: &mut Node, owner: Owner) -> R<Option<Visit>>
+    ensures schemas { node.new.schemas ≡ node.old.schemas }
+{
     if !node.is_under_way(owner) {
         return Ok(None);
     }
@@ -73,12 +83,15 @@ pub fn visit(alloc: Global, node: &mut Node, owner: Owner) -> R<Option<Visit>> {
 }
 
 /// Starts a statement and makes its first visit; none where `start` would not start it.
+#[tactic(auto, using(crate::proofs::NodeLemmas::start_visit_same))]
 pub fn start_and_visit(
     alloc: Global,
     node: &mut Node,
     owner: Owner,
     statement: Statement,
-) -> R<Option<Visit>> {
+) -> R<Option<Visit>>
+    ensures schemas { node.new.schemas ≡ node.old.schemas }
+{
     if !can_start(node, owner, &statement) {
         return Ok(None);
     }
@@ -88,12 +101,15 @@ pub fn start_and_visit(
 
 /// The next visit of an owner and, where this is done with its statement, the start of a further one; none
 /// where it has no statement in progress, or `fits` does not say that the further one fits.
+#[tactic(auto, using(crate::proofs::NodeLemmas::visit_start_same))]
 pub fn visit_and_start(
     alloc: Global,
     node: &mut Node,
     owner: Owner,
     next: Statement,
-) -> R<Option<Visit>> {
+) -> R<Option<Visit>>
+    ensures schemas { node.new.schemas ≡ node.old.schemas }
+{
     if !can_go_on(node, owner, &next) {
         return Ok(None);
     }
@@ -116,7 +132,10 @@ fn can_go_on(node: &Node, owner: Owner, next: &Statement) -> bool
 
 /// The commit of an owner's transaction, and the position of the entry; none where none is written, and
 /// where the owner has no transaction or a statement in progress.
-pub fn commit(alloc: Global, node: &mut Node, owner: Owner, origin: Origin) -> R<Option<u64>> {
+#[tactic(auto, using(crate::proofs::NodeLemmas::call_same))]
+pub fn commit(alloc: Global, node: &mut Node, owner: Owner, origin: Origin) -> R<Option<u64>>
+    ensures schemas { node.new.schemas ≡ node.old.schemas }
+{
     if !is_idle(node, owner) {
         return Ok(None);
     }
