@@ -1,1 +1,3 @@
 mod MoveLemmas
+mod StayLemmas
+mod TeamLemmas

@@ -1,5 +1,5 @@
 -- The next move, by what the worker has; and that the next statement of an entry fits.
-use Rattle.std.proofs.Common.{◌≡◌, ℕ, ◌-◌, ◌==◌, if◌then◌else◌, List, Option, None, Some, Bool, true, false, refl}
+use Rattle.std.proofs.Common.{◌≡◌, ◌∙◌, ℕ, ◌-◌, ◌==◌, if◌then◌else◌, List, Option, None, Some, Bool, true, false, refl, ap}
 use Rattle.std.specs.Prelude.{is_some, option_and_then}
 use Rattle.std.specs.List.{AllByRecursion, slice_get}
 use Rattle.row_types.specs.declared.table_schema.Schema.{Schema}
@@ -10,19 +10,35 @@ use Rattle.statement_log.specs.Positions.{entry_at}
 use Rattle.node_model.specs.declared.txns.Walk.{Walk}
 use Rattle.node_model.specs.Txns.{txn_of}
 use Rattle.node_model.specs.Node.{NodeView}
+use Rattle.node_parts.specs.Views.{walk_of}
 use Rattle.node_engine.proofs.EachLemmas.{each_at}
-use Rattle.applier.specs.Appliers.{ApplierView, LogFits, statement_behind, next_statement}
-use Rattle.applier.specs.Moves.{working_move, visit_move, idle_move}
+use Rattle.applier.specs.declared.workers.Worker.{Worker}
+use Rattle.applier.specs.Appliers.{LogFits, statement_behind, next_statement}
+use Rattle.applier.specs.Moves.{worker_move, walking_move, visit_move, idle_move, done_move, begin_move}
 
-pub walks : (w : Option Walk) (log : List Entry) (applier : ApplierView) (node : NodeView) → is_some w ≡ true
-    → working_move w log applier node ≡ visit_move (next_statement applier.started applier.entry log) applier node
-walks None log applier node e = absurd (let q : false ≡ true = e in cc)
-walks (Some walk) log applier node e = refl
+walking : (w : Option Walk) (left : Option ℕ) (log : List Entry) (worker : Worker) (node : NodeView) → is_some w ≡ true
+    → walking_move w left log worker node ≡ visit_move (next_statement worker.started worker.entry log) worker node
+walking None left log worker node e = absurd (let q : false ≡ true = e in cc)
+walking (Some walk) left log worker node e = refl
 
-pub rests : (w : Option Walk) (log : List Entry) (applier : ApplierView) (node : NodeView) → is_some w ≡ false
-    → working_move w log applier node ≡ idle_move (is_some (txn_of applier.owner.0 node.txns)) log applier node
-rests (Some walk) log applier node e = absurd (let q : true ≡ false = e in cc)
-rests None log applier node e = refl
+resting : (w : Option Walk) (left : Option ℕ) (log : List Entry) (worker : Worker) (node : NodeView) → is_some w ≡ false
+    → walking_move w left log worker node ≡ idle_move (is_some (txn_of worker.owner.0 node.txns)) left log worker node
+resting (Some walk) left log worker node e = absurd (let q : true ≡ false = e in cc)
+resting None left log worker node e = refl
+
+pub walks : (left : Option ℕ) (log : List Entry) (worker : Worker) (node : NodeView) → is_some (walk_of worker.owner.0 node.txns) ≡ true
+    → worker_move left log worker node ≡ visit_move (next_statement worker.started worker.entry log) worker node
+walks left log worker node e = walking (walk_of worker.owner.0 node.txns) left log worker node e
+
+pub rests_begun : (left : Option ℕ) (log : List Entry) (worker : Worker) (node : NodeView) → is_some (walk_of worker.owner.0 node.txns) ≡ false
+    → is_some (txn_of worker.owner.0 node.txns) ≡ true → worker_move left log worker node ≡ done_move worker.entry worker node
+rests_begun left log worker node e begun =
+    resting (walk_of worker.owner.0 node.txns) left log worker node e ∙ ap (λ (b : Bool). idle_move b left log worker node) begun
+
+pub rests : (left : Option ℕ) (log : List Entry) (worker : Worker) (node : NodeView) → is_some (walk_of worker.owner.0 node.txns) ≡ false
+    → is_some (txn_of worker.owner.0 node.txns) ≡ false → worker_move left log worker node ≡ begin_move worker.entry left log worker node
+rests left log worker node e none =
+    resting (walk_of worker.owner.0 node.txns) left log worker node e ∙ ap (λ (b : Bool). idle_move b left log worker node) none
 
 entry_fits : (schemas : List Schema) (log : List Entry) (number : ℕ) (entry : Entry) → LogFits schemas log → entry_at number log ≡ Some entry → AllByRecursion (FitsSchemas schemas) entry.statements
 entry_fits schemas log number entry fits found = at (number == 0) found

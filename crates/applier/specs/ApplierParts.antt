@@ -1,16 +1,13 @@
--- What contracts see of an applier's parts.
+-- What contracts see of an applier.
 use Rattle.node_model.specs.Node.{NodeView}
 use Rattle.applier.specs.declared.appliers.Applier.TheInside.{Inside}
-use Rattle.applier.specs.declared.parts.Parts.{Parts}
 use Rattle.applier.specs.declared.turns.Turn.{Turn}
+use Rattle.applier.specs.declared.workers.Worker.{Worker}
 use Rattle.applier.specs.Appliers.{ApplierView}
 use Rattle.applier.specs.Moves.{Moved}
 
-abbrev pub applier_view : Parts → ApplierView
-applier_view parts = record { owner = parts.owner; stopped = parts.stopped; entry = parts.entry; started = parts.started }
-
-abbrev pub moved : Turn → Parts → NodeView → Moved
-moved turn parts node = record { turn = turn; applier = applier_view parts; node = node }
+abbrev pub moved : Turn → Worker → NodeView → Moved
+moved turn worker node = record { turn = turn; worker = worker; node = node }
 
 abbrev pub view_of : Inside → ApplierView
-view_of applier = applier_view applier.parts
+view_of applier = record { replica = applier.replica; stopped = applier.stopped; workers = applier.workers.items }

@@ -1,3 +1,4 @@
 pub mod Appliers
 pub mod Moves
 pub mod ApplierParts
+pub mod TeamParts

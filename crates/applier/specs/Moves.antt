@@ -1,5 +1,6 @@
--- The next move of an applier on its replica.
-use Rattle.std.specs.Prelude.{ℕ, ◌+◌, is_some, Bool, true, false, cond, List, Option, None, Some, length}
+-- The next move of a worker on its replica.
+use Rattle.std.specs.Prelude.{ℕ, ◌+◌, ◌-◌, is_some, Bool, true, false, cond, List, [], ◌∷◌, Option, None, Some, length, map}
+use Rattle.std.specs.List.{slice_get, slice_set}
 use Rattle.ptc_statement.specs.declared.statements.Statement.{Statement}
 use Rattle.statement_log.specs.declared.entries.Entry.{Entry}
 use Rattle.statement_log.specs.declared.origins.Origin.TheVariants.{Applied}
@@ -15,86 +16,127 @@ use Rattle.node_parts.specs.Views.{walk_of}
 use Rattle.node_visits.specs.Answers.{visit_answer}
 use Rattle.node_visits.specs.NextStarts.{next_started}
 use Rattle.applier.specs.declared.turns.Turn.{Turn}
-use Rattle.applier.specs.declared.turns.Turn.TheVariants.{Took, Visited, Committed, Nothing, Stopped}
-use Rattle.applier.specs.Appliers.{ApplierView, statement_behind, next_statement, entry_to_take, with_entry, without_entry}
+use Rattle.applier.specs.declared.turns.Turn.TheVariants.{Took, Visited, Committed, Nothing, OrderWait, Stopped}
+use Rattle.applier.specs.declared.workers.Worker.{Worker}
+use Rattle.applier.specs.Appliers.{ApplierView, statement_behind, next_statement, entry_left, earlier_open, with_entry, without_entry}
 
--- what an applier did, and what this left of it and of its replica
+-- what a worker did, and what this left of it and of its replica
 pub record Moved : Type 0 where
   pub turn : Turn
-  pub applier : ApplierView
+  pub worker : Worker
   pub node : NodeView
 
-abbrev pub nothing_done : Turn → ApplierView → NodeView → Moved
-nothing_done turn applier node = record { turn = turn; applier = applier; node = node }
+abbrev pub nothing_done : Turn → Worker → NodeView → Moved
+nothing_done turn worker node = record { turn = turn; worker = worker; node = node }
 
 -- an entry is taken, and its first statement started, if it has one
-abbrev pub took : ℕ → Option Statement → ApplierView → NodeView → Moved
-took number None applier node = record {
+abbrev pub took : ℕ → Option Statement → Worker → NodeView → Moved
+took number None worker node = record {
   turn = Took number;
-  applier = with_entry number 0 applier;
-  node = after_call (BeginCall applier.owner (Apply number)) node;
+  worker = with_entry number 0 worker;
+  node = after_call (BeginCall worker.owner (Apply number)) node;
 }
-took number (Some statement) applier node = record {
+took number (Some statement) worker node = record {
   turn = Took number;
-  applier = with_entry number 1 applier;
-  node = after_call (StartCall applier.owner statement) (after_call (BeginCall applier.owner (Apply number)) node);
+  worker = with_entry number 1 worker;
+  node = after_call (StartCall worker.owner statement) (after_call (BeginCall worker.owner (Apply number)) node);
 }
 
-abbrev pub take_move : Option ℕ → List Entry → ApplierView → NodeView → Moved
-take_move None log applier node = nothing_done (Nothing (applied_of node.history)) applier node
-take_move (Some number) log applier node = took number (statement_behind 0 number log) applier node
+-- a worker without an entry takes the one that is left
+abbrev pub take_move : Option ℕ → List Entry → Worker → NodeView → Moved
+take_move None log worker node = nothing_done (Nothing (applied_of node.history)) worker node
+take_move (Some number) log worker node = took number (statement_behind 0 number log) worker node
+
+-- the entry of a transaction that was rolled back is taken again once no earlier one is open
+abbrev pub take_again : Option ℕ → ℕ → List Entry → Worker → NodeView → Moved
+take_again None number log worker node = took number (statement_behind 0 number log) worker node
+take_again (Some earlier) number log worker node = nothing_done (OrderWait earlier) worker node
 
 -- where a visit was done with its statement the next one is started
-abbrev pub after_answer : Visit → ApplierView → ApplierView
-after_answer Stepped applier = applier
-after_answer Done applier = record applier { started = applier.started + 1 }
-after_answer (Duplicate key) applier = applier
-after_answer (Waits by) applier = applier
-after_answer (Deadlock victim cycle) applier = applier
+abbrev pub after_answer : Visit → Worker → Worker
+after_answer Stepped worker = worker
+after_answer Done worker = record worker { started = worker.started + 1 }
+after_answer (Duplicate key) worker = worker
+after_answer (Waits by) worker = worker
+after_answer (Deadlock victim cycle) worker = worker
 
-abbrev pub visit_move : Option Statement → ApplierView → NodeView → Moved
-visit_move None applier node = record {
-  turn = Visited (visit_answer applier.owner.0 node);
-  applier = applier;
-  node = after_call (VisitCall applier.owner) node;
+abbrev pub visit_move : Option Statement → Worker → NodeView → Moved
+visit_move None worker node = record {
+  turn = Visited (visit_answer worker.owner.0 node);
+  worker = worker;
+  node = after_call (VisitCall worker.owner) node;
 }
-visit_move (Some next) applier node = record {
-  turn = Visited (visit_answer applier.owner.0 node);
-  applier = after_answer (visit_answer applier.owner.0 node) applier;
-  node = next_started (visit_answer applier.owner.0 node) applier.owner next (after_call (VisitCall applier.owner) node);
+visit_move (Some next) worker node = record {
+  turn = Visited (visit_answer worker.owner.0 node);
+  worker = after_answer (visit_answer worker.owner.0 node) worker;
+  node = next_started (visit_answer worker.owner.0 node) worker.owner next (after_call (VisitCall worker.owner) node);
 }
 
-abbrev pub commit_move : Option ℕ → ApplierView → NodeView → Moved
-commit_move None applier node = nothing_done (Nothing (applied_of node.history)) applier node
-commit_move (Some number) applier node = record {
+-- entries are committed in order
+abbrev pub commit_move : Option ℕ → ℕ → Worker → NodeView → Moved
+commit_move None number worker node = record {
   turn = Committed number;
-  applier = without_entry applier;
-  node = after_call (CommitCall applier.owner (Applied number)) node;
+  worker = without_entry worker;
+  node = after_call (CommitCall worker.owner (Applied number)) node;
 }
+commit_move (Some earlier) number worker node = nothing_done (OrderWait earlier) worker node
 
--- a transaction whose statements are done is committed; without one an entry is taken
-abbrev pub idle_move : Bool → List Entry → ApplierView → NodeView → Moved
-idle_move true log applier node = commit_move applier.entry applier node
-idle_move false log applier node = take_move (entry_to_take applier.entry (applied_of node.history) (length log)) log applier node
+-- a transaction whose statements are done is committed
+abbrev pub done_move : Option ℕ → Worker → NodeView → Moved
+done_move None worker node = nothing_done (Nothing (applied_of node.history)) worker node
+done_move (Some number) worker node = commit_move (earlier_open (applied_of node.history) number) number worker node
 
-abbrev pub working_move : Option Walk → List Entry → ApplierView → NodeView → Moved
-working_move (Some walk) log applier node = visit_move (next_statement applier.started applier.entry log) applier node
-working_move None log applier node = idle_move (is_some (txn_of applier.owner.0 node.txns)) log applier node
+abbrev pub begin_move : Option ℕ → Option ℕ → List Entry → Worker → NodeView → Moved
+begin_move None left log worker node = take_move left log worker node
+begin_move (Some number) left log worker node = take_again (earlier_open (applied_of node.history) number) number log worker node
 
--- the next move of an applier, whose source has this log
-abbrev pub next_move : List Entry → ApplierView → NodeView → Moved
-next_move log applier node =
-    cond applier.stopped (nothing_done Stopped applier node) (working_move (walk_of applier.owner.0 node.txns) log applier node)
+abbrev pub idle_move : Bool → Option ℕ → List Entry → Worker → NodeView → Moved
+idle_move true left log worker node = done_move worker.entry worker node
+idle_move false left log worker node = begin_move worker.entry left log worker node
 
--- A stop and a start: whether it changed anything, and what it left.
+abbrev pub walking_move : Option Walk → Option ℕ → List Entry → Worker → NodeView → Moved
+walking_move (Some walk) left log worker node = visit_move (next_statement worker.started worker.entry log) worker node
+walking_move None left log worker node = idle_move (is_some (txn_of worker.owner.0 node.txns)) left log worker node
+
+-- the next move of a worker, where this entry is left to take
+abbrev pub worker_move : Option ℕ → List Entry → Worker → NodeView → Moved
+worker_move left log worker node = walking_move (walk_of worker.owner.0 node.txns) left log worker node
+
+-- what a worker of an applier did, and what this left of the applier and of its replica
+pub record Turned : Type 0 where
+  pub turn : Turn
+  pub workers : List Worker
+  pub node : NodeView
+
+-- the worker at a place has moved
+abbrev pub turned : ℕ → List Worker → Moved → Turned
+turned place workers moved = record { turn = moved.turn; workers = slice_set workers place moved.worker; node = moved.node }
+
+abbrev pub turned_at : ℕ → Option Worker → List Entry → List Worker → NodeView → Turned
+turned_at place None log workers node = record { turn = Nothing (applied_of node.history); workers = workers; node = node }
+turned_at place (Some worker) log workers node =
+    turned place workers (worker_move (entry_left (applied_of node.history) (length log) workers) log worker node)
+
+-- the next move of a worker of this number; its source has this log
+abbrev pub next_move : ℕ → List Entry → ApplierView → NodeView → Turned
+next_move worker log applier node =
+    cond applier.stopped (record { turn = Stopped; workers = applier.workers; node = node })
+    (turned_at (worker - 1) (slice_get applier.workers (worker - 1)) log applier.workers node)
+
+-- A stop: whether it changed anything, and what it left.
 
 pub record Switched : Type 0 where
   pub changed : Bool
   pub applier : ApplierView
   pub node : NodeView
 
--- the worker's transaction is rolled back, and it gives its entry back
+-- the transactions of all workers are rolled back
+abbrev pub all_ended : List Worker → NodeView → NodeView
+all_ended [] node = node
+all_ended (worker ∷ workers) node = all_ended workers (ended worker.owner.0 node)
+
+-- the workers' transactions are rolled back, and they give their entries back
 abbrev pub stop_move : ApplierView → NodeView → Switched
 stop_move applier node =
     cond applier.stopped (record { changed = false; applier = applier; node = node })
-    (record { changed = true; applier = record (without_entry applier) { stopped = true }; node = ended applier.owner.0 node })
+    (record { changed = true; applier = record applier { stopped = true; workers = map without_entry applier.workers }; node = all_ended applier.workers node })

@@ -1,11 +1,15 @@
-//! A replica's applier with one worker: it applies the entries of the source's log in order, a move at a time.
+//! A replica's applier: its workers take the entries of the source's log in order, apply them side by side, a move
+//! at a time, and commit them in order.
 #![tactic(auto)]
 
 mod appliers;
 mod moves;
-mod parts;
+mod orders;
 mod statements;
+mod teams;
 mod turns;
+mod workers;
 
 pub use appliers::Applier;
 pub use turns::Turn;
+pub use workers::Worker;

@@ -1,7 +1,7 @@
 ghost use Rattle.std.specs.Prelude.{◌≡◌, ◌<◌, ◌+◌, ◌^◌, IfSome};
 ghost use Rattle.std.specs.List.{slice_get};
 ghost use Rattle.std.specs.Option.{option_copied};
-ghost use Rattle.applier.specs.Appliers.{statement_behind, next_statement, entry_to_take};
+ghost use Rattle.applier.specs.Appliers.{statement_behind, next_statement};
 
 use ptc_statement::Statement;
 use statement_log::Log;
@@ -35,20 +35,5 @@ pub fn next_statement(source: &Log, entry: Option<u64>, started: usize) -> Optio
     match entry {
         None => None,
         Some(number) => statement_behind(source, number, started),
-    }
-}
-
-/// The entry that a worker takes.
-pub fn entry_to_take(kept: Option<u64>, applied: u64, end: u64) -> Option<u64>
-    ensures { result ≡ entry_to_take kept applied end }
-{
-    match kept {
-        Some(number) => Some(number),
-        None => {
-            if applied < end {
-                return Some(applied + 1);
-            }
-            None
-        }
     }
 }
