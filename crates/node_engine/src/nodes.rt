@@ -4,6 +4,7 @@ ghost use Rattle.node_engine.specs.declared.publishing.MasterFault.TheVariants.{
 ghost use Rattle.history.specs.Replay.{fold, applied_of};
 ghost use Rattle.node_model.specs.Waits.{next_wait};
 ghost use Rattle.node_model.specs.Txns.{txn_of};
+ghost use Rattle.node_model.specs.Kept.{IsKept};
 ghost use Rattle.node_model.specs.Node.{NodeView, begun, ended, committed_rows};
 ghost use Rattle.node_model.specs.Calls.{after_call, fresh_node, Visit as VisitCall, Start as StartCall, Commit as CommitCall, Publish as PublishCall};
 ghost use Rattle.std.specs.List.{AllByRecursion};
@@ -64,6 +65,14 @@ impl Node {
     {
         let parts = fresh_parts(alloc, schemas, start)?;
         Ok(Node { parts })
+    }
+
+    /// What always holds of a node, for a caller whose proof wants it: the laws of the locks, that the committed
+    /// tables are tables, and that the statements of open transactions fit. It does nothing.
+    pub fn keeps_laws(&self)
+        ensures { IsKept self.now }
+    {
+        let _ = &self.parts;
     }
 
     /// Whether an owner has a transaction.

@@ -1,0 +1,4 @@
+mod NodeLemmas
+mod MoveLemmas
+pub mod StayLemmas
+pub mod ClearLemmas

@@ -1,0 +1,4 @@
+pub mod Tools
+pub mod Moves
+pub mod Clears
+pub mod ToolParts
