@@ -95,6 +95,20 @@ impl Node {
         &self.parts.schemas
     }
 
+    /// The tables that the history began from.
+    pub fn start_rows(&self) -> &Tables
+        ensures { result.now ≡ self.now.start }
+    {
+        &self.parts.start
+    }
+
+    /// How many transactions are open.
+    pub fn open_count(&self) -> usize
+        ensures { result ≡ length self.now.txns }
+    {
+        self.parts.txns.len()
+    }
+
     /// The entries that were committed, in order.
     pub fn history(&self) -> &Log
         ensures { result.now.entries ≡ self.now.history }
@@ -264,5 +278,14 @@ impl Node {
     {
         let answer = start_and_visit_parts(alloc, owner, statement, &mut self.parts)?;
         Ok(answer)
+    }
+
+    /// The tables that the history began from and the history, for a caller who wants nothing else of
+    /// the node any more; nothing is copied.
+    pub fn into_start_and_history(self) -> (Tables, Log)
+        ensures start { result.0 ≡ self.start }
+        ensures history { result.1.entries ≡ self.history }
+    {
+        (self.parts.start, self.parts.history)
     }
 }
