@@ -25,7 +25,8 @@ fn push_equal_line(writer: &mut Writer, line: &EqualLine) -> R<()>
     writer.push_bytes(b"\n")
 }
 
-pub(crate) fn push_equal_lines(writer: &mut Writer, lines: &[EqualLine]) -> R<()>
+/// Lines on which tables of which replicas are equal to the source's at the log's end.
+pub fn push_equal_lines(writer: &mut Writer, lines: &[EqualLine]) -> R<()>
     ensures { OnOk result (Appended (equal_lines writer.old.schemas lines.now) writer.old writer.new) }
 {
     for line in lines {
@@ -76,8 +77,9 @@ pub(crate) fn push_duplicates(writer: &mut Writer, lines: &[DuplicateLine]) -> R
     Ok(())
 }
 
+/// The line of the status, the last one.
 #[tactic(auto, unfolding(crate::specs::Report::status_line))]
-pub(crate) fn push_status(writer: &mut Writer, status: u8) -> R<()>
+pub fn push_status(writer: &mut Writer, status: u8) -> R<()>
     ensures { OnOk result (Appended (status_line status) writer.old writer.new) }
 {
     writer.push_bytes(b"STATUS ")?;

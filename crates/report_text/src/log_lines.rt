@@ -78,7 +78,7 @@ fn push_entry_line(writer: &mut Writer, number: u64, origin: &Origin) -> R<()>
 }
 
 /// The entries of a log, numbered from 1, each with its statements.
-pub(crate) fn push_log(writer: &mut Writer, entries: &[Entry]) -> R<()>
+pub fn push_log(writer: &mut Writer, entries: &[Entry]) -> R<()>
     ensures { OnOk result (Appended (log_lines writer.old.schemas 1 entries.now) writer.old writer.new) }
 {
     for (index, entry) in entries.iter().enumerate() {
@@ -136,7 +136,7 @@ fn push_history(writer: &mut Writer, replica: u64, history: &[Entry]) -> R<()>
 }
 
 /// The histories of replicas, which are numbered from 1.
-pub(crate) fn push_histories(writer: &mut Writer, histories: &[Entries]) -> R<()>
+pub fn push_histories(writer: &mut Writer, histories: &[Entries]) -> R<()>
     ensures { OnOk result (Appended (histories_lines writer.old.schemas 1 histories.now) writer.old writer.new) }
 {
     for (index, history) in histories.iter().enumerate() {

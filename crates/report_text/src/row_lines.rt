@@ -17,8 +17,9 @@ fn push_schemas(writer: &mut Writer, schemas: &[Schema]) -> R<()>
     Ok(())
 }
 
+/// The first line of a report, and the schemas.
 #[tactic(auto, unfolding(crate::specs::Report::head_text))]
-pub(crate) fn push_head(writer: &mut Writer, schemas: &[Schema]) -> R<()>
+pub fn push_head(writer: &mut Writer, schemas: &[Schema]) -> R<()>
     ensures { OnOk result (Appended (head_text schemas.now) writer.old writer.new) }
 {
     writer.push_bytes(b"PTC REPORT 1\n")?;
@@ -83,7 +84,7 @@ fn push_tables(writer: &mut Writer, word: &[u8], node: usize, tables: &[Rows]) -
 }
 
 /// The rows of nodes, node by node and table by table; node 0 is the source.
-pub(crate) fn push_nodes(writer: &mut Writer, word: &[u8], nodes: &[Tables]) -> R<()>
+pub fn push_nodes(writer: &mut Writer, word: &[u8], nodes: &[Tables]) -> R<()>
     ensures { OnOk result (Appended (nodes_lines writer.old.schemas word.now 0 nodes.now) writer.old writer.new) }
 {
     for (node, tables) in nodes.iter().enumerate() {

@@ -74,7 +74,8 @@ fn push_verdict_line(writer: &mut Writer, line: &VerdictLine) -> R<()>
     writer.push_bytes(b"\n")
 }
 
-pub(crate) fn push_verdicts(writer: &mut Writer, lines: &[VerdictLine]) -> R<()>
+/// Lines on chunks: what a replica's check row says beside the source's.
+pub fn push_verdicts(writer: &mut Writer, lines: &[VerdictLine]) -> R<()>
     ensures { OnOk result (Appended (verdict_lines writer.old.schemas lines.now) writer.old writer.new) }
 {
     for line in lines {
