@@ -98,6 +98,7 @@ abandoned_line line = codes "ABANDONED " ++ actor_text line.actor ++ codes " " +
 unfoldable pub why_text : Why → List ℕ
 why_text (w.Retries rollbacks) = codes "retries " ++ decimal rollbacks
 why_text (w.Waits by) = codes "waits " ++ actor_text by
+why_text (w.Order entry) = codes "order " ++ decimal entry
 
 unfoldable pub unfinished_word : List ℕ
 unfinished_word = codes "UNFINISHED "

@@ -101,4 +101,6 @@ pub enum Why {
     Retries { rollbacks: u32 },
     /// a lock that this actor holds excludes its next visit
     Waits { by: Actor },
+    /// an earlier entry than the worker's could not be committed
+    Order { entry: u64 },
 }

@@ -144,6 +144,7 @@ fn push_why(writer: &mut Writer, why: Why) -> R<()>
             writer.push_bytes(b"waits ")?;
             push_actor(writer, by)
         }
+        Why::Order { entry } => push_counted(writer, b"order ", entry),
     }
 }
 

@@ -29,7 +29,7 @@ const ABANDONED: [AbandonedLine; 1] = [AbandonedLine {
     number: 2,
 }];
 
-const UNFINISHED: [UnfinishedLine; 2] = [
+const UNFINISHED: [UnfinishedLine; 3] = [
     UnfinishedLine {
         actor: Actor::Tool,
         why: Why::Retries { rollbacks: 11 },
@@ -43,6 +43,13 @@ const UNFINISHED: [UnfinishedLine; 2] = [
             },
         },
     },
+    UnfinishedLine {
+        actor: Actor::Worker {
+            replica: 2,
+            worker: 3,
+        },
+        why: Why::Order { entry: 4 },
+    },
 ];
 
 #[test]
@@ -54,7 +61,7 @@ fn lines_are_told_word_by_word(rt: HostRuntime) -> Result<(), Fail> {
     push_abandoned(&mut writer, &ABANDONED)?;
     push_unfinished(&mut writer, &UNFINISHED)?;
     let text =
-        b"DUPLICATE s2 line 9\nDUPLICATE r1.l1 line 12\nABANDONED s1 2\nUNFINISHED c retries 11\nUNFINISHED r1.l1 waits r1\n".as_slice();
+        b"DUPLICATE s2 line 9\nDUPLICATE r1.l1 line 12\nABANDONED s1 2\nUNFINISHED c retries 11\nUNFINISHED r1.l1 waits r1\nUNFINISHED r2.3 order 4\n".as_slice();
     assert!(rt; writer.as_slice() == text);
     Ok(())
 }
