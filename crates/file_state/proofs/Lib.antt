@@ -1,2 +1,2 @@
-mod GoodLemmas
+pub mod GoodLemmas
 pub mod KeepLemmas

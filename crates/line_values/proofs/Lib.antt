@@ -1,6 +1,6 @@
 mod RangeLemmas
 mod RowLemmas
 mod TableLemmas
-mod SchemaLemmas
+pub mod SchemaLemmas
 mod LengthLemmas
 pub mod LineLemmas
