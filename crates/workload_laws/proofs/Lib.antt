@@ -1,0 +1,6 @@
+mod ListLemmas
+mod SoundLemmas
+mod WholeLemmas
+mod DeclareLemmas
+mod GiveLemmas
+mod FileLemmas
