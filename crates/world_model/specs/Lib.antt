@@ -1,0 +1,9 @@
+pub mod Worlds
+pub mod Turns
+pub mod Rounds
+pub mod Ends
+pub mod Verdicts
+pub mod Summary
+pub mod CanRun
+pub mod Good
+pub mod Laws
