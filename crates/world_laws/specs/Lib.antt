@@ -1,0 +1,4 @@
+pub mod Clients
+pub mod Sound
+pub mod Sources
+pub mod Replicas
