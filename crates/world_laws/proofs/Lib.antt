@@ -1,9 +1,12 @@
 mod ListLemmas
-mod SoundLemmas
 mod ClientLemmas
 mod GrowLemmas
 mod SourceLemmas
 mod ReplicaLemmas
+mod OwnLemmas
 mod StepLemmas
+mod OwnStepLemmas
 mod BeginLemmas
+mod OwnRunLemmas
+pub mod SoundLemmas
 pub mod RunLemmas

@@ -9,6 +9,7 @@ use Rattle.workload.specs.declared.workloads.Workload.{Workload}
 use Rattle.workload_laws.specs.Sound.{RunsClients, IsStep, IsScript, IsSound}
 use Rattle.world_model.specs.CanRun.{ScriptFits, ScriptsFit, LocalsFit, IsRunnable}
 use Rattle.world_laws.specs.Clients.{LinesOfClients, ScriptsOfClients, AreClients}
+use Rattle.world_laws.specs.InOrder.{IsInOrder, SoundScriptsAreInOrder}
 use Rattle.world_laws.specs.Sound.{SoundWorkloadsCanRun}
 use Rattle.world_laws.proofs.ListLemmas.{each_is, each_both}
 
@@ -56,3 +57,12 @@ clients workload sound = record {
 
 pub sound_can_run : SoundWorkloadsCanRun
 sound_can_run options workload are sound = (record { options_fit = are; runnable = runnable workload sound }, clients workload sound)
+
+in_order : (schemas : List Schema) (scripts : List Script) → AllByRecursion (IsScript schemas) scripts → AllByRecursion IsInOrder scripts
+in_order schemas scripts are = each_is (IsScript schemas) IsInOrder scripts (λ script is. record { whole = is.whole; rise = is.rise }) are
+
+pub sound_in_order : SoundScriptsAreInOrder
+sound_in_order workload sound = record {
+  sessions = in_order workload.schemas.tables workload.sessions sound.scripts;
+  locals = each_is (AllByRecursion (IsScript workload.schemas.tables)) (AllByRecursion IsInOrder) workload.locals (λ scripts are. in_order workload.schemas.tables scripts are) sound.local_scripts;
+}

@@ -165,7 +165,7 @@ move_holds options workload world i.ResumeTool h = h
 move_holds options workload world (i.StopReplica number) h = h
 move_holds options workload world (i.StartReplica number) h = h
 
-step_holds : (options : RunOptions) (workload : Workload) (world : WorldView) (item : Item) → WorldHolds options workload world → WorldHolds options workload (stepped item world)
+pub step_holds : (options : RunOptions) (workload : Workload) (world : WorldView) (item : Item) → WorldHolds options workload world → WorldHolds options workload (stepped item world)
 step_holds options workload world item h = at (is_written world (move item world).note)
   where
     moved : WorldHolds options workload (move item world).world

@@ -5,6 +5,6 @@
 mod laws;
 
 pub use laws::{
-    replicas_follow, sound_workloads_can_run, sources_are_told, tools_are_no_victims,
-    verdicts_compare,
+    replicas_follow, sessions_wrote_their_own_calls, sound_scripts_are_in_order,
+    sound_workloads_can_run, sources_are_told, tools_are_no_victims, verdicts_compare,
 };
