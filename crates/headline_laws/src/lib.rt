@@ -3,4 +3,7 @@
 
 mod laws;
 
-pub use laws::each_printed_verdict_compares;
+pub use laws::{
+    each_printed_verdict_compares, each_world_began_from_its_workload,
+    logs_are_written_as_they_write,
+};
