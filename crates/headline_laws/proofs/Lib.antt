@@ -4,3 +4,10 @@ pub mod LeaveLemmas
 pub mod FitLemmas
 pub mod KeptLemmas
 pub mod BeginLemmas
+pub mod ReplayLemmas
+pub mod EqualLemmas
+pub mod StayLemmas
+pub mod MirrorLemmas
+pub mod CoverLemmas
+pub mod SameLemmas
+pub mod RunLemmas

@@ -28,8 +28,11 @@ script_of session = session.script
 abbrev pub lines_of : Script → List ScriptLine
 lines_of script = script.lines
 
--- a world began from the workload: its schemas, the start rows of its nodes, and the scripts of the source's sessions
-pub record BeganFrom (workload : Workload) (world : WorldView) : Type 0 where
+-- a world began from the workload, under these options: it has its schedule, its schemas, the start rows of its nodes, and
+-- the scripts of the source's sessions
+pub record BeganFrom (options : RunOptions) (workload : Workload) (world : WorldView) : Type 0 where
+  pub under : world.options ≡ options
+  pub schedule : world.schedule ≡ workload.schedule
   pub schemas : world.source.schemas ≡ workload.schemas.tables
   pub source_start : world.source.start ≡ workload.source
   pub replica_starts : map start_of world.replicas ≡ workload.copies
@@ -57,7 +60,7 @@ pub record LogHolds (world : WorldView) : Type 0 where
 abbrev pub EachWorldBegan : Type 0
 EachWorldBegan =
     (options : RunOptions) (workload : Workload) (items : List Item) → CanRun options workload → AreClients workload
-    → BeganFrom workload (played items (begun options workload))
+    → BeganFrom options workload (played items (begun options workload))
 
 abbrev pub LogsAreWritten : Type 0
 LogsAreWritten = OfEachWorld LogHolds

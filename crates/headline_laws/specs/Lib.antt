@@ -1,2 +1,4 @@
 pub mod Lines
 pub mod Begins
+pub mod Equals
+pub mod Headline
