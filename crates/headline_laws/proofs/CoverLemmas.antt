@@ -1,5 +1,5 @@
 -- Where a replica has applied the whole log, its verdicts cover all keys of the tables that the tool has left behind it.
-use Rattle.std.proofs.Common.{◌≡◌, ◌≢◌, ◌∙◌, ℕ, zero, suc, ◌+◌, ◌-◌, ◌<◌, ◌≤◌, ◌==◌, ◌&&◌, Bool, true, false, cond, List, [], ◌∷◌, ◌++◌, Option, None, Some, option_map, length, refl, ap, sym, subst, arith}
+use Rattle.std.proofs.Common.{◌≡◌, ◌∙◌, ℕ, zero, suc, ◌+◌, ◌-◌, ◌≤◌, Bool, true, false, cond, List, [], ◌∷◌, ◌++◌, Option, None, Some, option_map, refl, ap, sym, subst, arith}
 use Rattle.std.specs.List.{Contains, slice_get}
 use Rattle.std.specs.Ordering.{match_ordering}
 use Rattle.std.specs.declared.cmp.Ordering.{Ordering}
@@ -16,12 +16,12 @@ use Rattle.checksum_table.specs.declared.check_rows.CheckEntry.{CheckEntry}
 use Rattle.checksum_table.specs.Checks.{is_for, place_cmp, check_at, with_absent}
 use Rattle.history.specs.Replay.{fold, Follows}
 use Rattle.report_text.specs.declared.summaries.VerdictLine.{VerdictLine}
-use Rattle.checksum_tool_laws.specs.Cover.{holding, mastered_in, mastered_at, span_at, Cover}
-use Rattle.checksum_tool_laws.specs.Told.{tables_behind, Told}
+use Rattle.checksum_tool_laws.specs.Cover.{holding, mastered_in, mastered_at, Cover}
+use Rattle.checksum_tool_laws.specs.Told.{Told}
 use Rattle.world_model.specs.Worlds.{WorldView, ReplicaView}
 use Rattle.world_model.specs.Verdicts.{verdict_line, all_chunks, verdicts_on, replica_verdicts}
 use Rattle.world_model.specs.Summary.{replayed_of, verdicts_from, verdicts_of}
-use Rattle.headline_laws.specs.Equals.{HasLineOver, HasAppliedAll, FinishedTablesAreCovered}
+use Rattle.headline_laws.specs.Equals.{HasAppliedAll, FinishedTablesAreCovered}
 use Rattle.headline_laws.proofs.MirrorLemmas.{Told as RowTold, told, told_in, SameMasters, same_masters}
 
 abbrev IsThere : Option CheckRow → Type 0

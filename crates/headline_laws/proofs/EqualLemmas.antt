@@ -1,5 +1,5 @@
 -- Each table of each replica has its line, which is EQUAL exactly where the rows are the source's.
-use Rattle.std.proofs.Common.{◌≡◌, ◌∙◌, ℕ, zero, suc, ◌+◌, ◌-◌, ◌<◌, ◌≤◌, ◌↔◌, true, IsTrue, List, [], ◌∷◌, ◌++◌, Some, length, map, refl, ap, sym, subst, arith}
+use Rattle.std.proofs.Common.{◌≡◌, ◌∙◌, ℕ, zero, suc, ◌+◌, ◌-◌, ◌<◌, ◌≤◌, ◌↔◌, true, List, [], ◌∷◌, ◌++◌, Some, length, map, refl, ap, sym, subst, arith}
 use Rattle.std.specs.List.{AllByRecursion, slice_get}
 use Rattle.std.specs.Ordering.{is_eq}
 use Rattle.std.specs.Cmp.Lexicographic.{slice_cmp}
@@ -16,7 +16,7 @@ use Rattle.report_text.specs.declared.summaries.EqualLine.{EqualLine}
 use Rattle.world_model.specs.Worlds.{WorldView, ReplicaView, begun}
 use Rattle.world_model.specs.Turns.{played}
 use Rattle.world_model.specs.Verdicts.{rows_equal, equals_on}
-use Rattle.world_model.specs.Summary.{replayed_of, final_rows, equals_from, equals_of}
+use Rattle.world_model.specs.Summary.{replayed_of, final_rows, equals_from}
 use Rattle.headline_laws.specs.Equals.{EqualLineHolds, HasEqualLine, EqualLinesHold, EachTableHasItsLine}
 use Rattle.headline_laws.proofs.ListLemmas.{each_joined, each_is, each_at}
 use Rattle.headline_laws.proofs.ReplayLemmas.{fold_are, as_many_tables, Replays, NodesReplay, nodes_replay}

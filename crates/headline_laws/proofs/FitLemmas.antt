@@ -1,5 +1,5 @@
 -- The statements of a replica's history fit.
-use Rattle.std.proofs.Common.{◌≡◌, ◌∙◌, List, [], ◌∷◌, Some, sym, subst}
+use Rattle.std.proofs.Common.{◌≡◌, ◌∙◌, List, [], ◌∷◌, sym, subst}
 use Rattle.std.specs.List.{AllByRecursion}
 use Rattle.row_types.specs.declared.table_schema.Schema.{Schema}
 use Rattle.ptc_statement.specs.declared.scripts.ScriptLine.{ScriptLine}

@@ -1,8 +1,6 @@
 -- What each world keeps: what it began from, who wrote the source's log, and that the statements of replicas fit.
-use Rattle.std.proofs.Common.{◌≡◌, ◌∙◌, ℕ, zero, suc, ◌+◌, ◌-◌, ◌≤◌, ◌==◌, Bool, true, false, cond, List, [], ◌∷◌, ◌++◌, Option, None, Some, length, map, refl, ap, sym, subst, arith}
-use Rattle.std.specs.Prelude.{slice_set}
+use Rattle.std.proofs.Common.{◌≡◌, ◌∙◌, ℕ, ◌+◌, ◌-◌, ◌≤◌, ◌==◌, Bool, true, false, cond, List, [], ◌∷◌, ◌++◌, Option, None, Some, length, map, refl, ap, sym, subst, arith}
 use Rattle.std.specs.List.{AllByRecursion, slice_get}
-use Rattle.std.proofs.lemmas.List.{length-map}
 use Rattle.row_types.specs.declared.table_schema.Schema.{Schema}
 use Rattle.row_types.specs.Fit.{AreTables}
 use Rattle.row_types.specs.KeyRows.{TableRows}
@@ -10,9 +8,9 @@ use Rattle.ptc_statement.specs.declared.scripts.Script.{Script}
 use Rattle.ptc_statement.specs.declared.scripts.ScriptLine.{ScriptLine}
 use Rattle.statement_log.specs.declared.entries.Entry.{Entry}
 use Rattle.statement_log.specs.declared.origins.Origin.{Origin}
-use Rattle.statement_log.specs.declared.origins.Origin.TheVariants.{Session, Local}
+use Rattle.statement_log.specs.declared.origins.Origin.TheVariants.{Session}
 use Rattle.node_model.specs.Node.{NodeView}
-use Rattle.node_model.specs.Calls.{Call, Begin, Start, Visit, Commit, Rollback, Publish, after_calls}
+use Rattle.node_model.specs.Calls.{Call, Begin, Start, Visit, Commit, Rollback, Publish}
 use Rattle.node_model.proofs.CallLemmas.{fresh_kept}
 use Rattle.session.specs.Sessions.{SessionView}
 use Rattle.session.specs.Moves as session
@@ -36,7 +34,7 @@ use Rattle.world_model.specs.declared.options.RunOptions.{RunOptions}
 use Rattle.world_model.specs.CanRun.{CanRun}
 use Rattle.world_model.specs.Good.{SessionFits, ReplicaFits, IsGood}
 use Rattle.world_model.specs.Worlds.{WorldView, ReplicaView, begun_sessions, begun_replicas, begun}
-use Rattle.world_model.specs.Turns.{off, Turned, session_at, tool_turn, ReplicaTurned, off_there, local_at, local_turn, is_worker, worker_turned, worker_turn, replica_at, on_replica, turn, move, is_written, line_of, written_if, stepped, played}
+use Rattle.world_model.specs.Turns.{off, session_at, tool_turn, ReplicaTurned, off_there, local_at, local_turn, is_worker, worker_turned, worker_turn, replica_at, on_replica, turn, move, is_written, line_of, written_if, stepped, played}
 use Rattle.world_model.proofs.GoodLemmas.{each_world_fits}
 use Rattle.headline_laws.specs.Begins.{start_of, script_of, lines_of, IsLogWriter, EachWroteHere}
 use Rattle.headline_laws.proofs.ListLemmas.{each_is, each_at, each_set, map_set}

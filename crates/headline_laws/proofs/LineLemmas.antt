@@ -12,14 +12,14 @@ use Rattle.history.specs.Replay.{chunk_rows, replica_at}
 use Rattle.history.specs.Headline.{Compares, IsVerdict}
 use Rattle.world_model.specs.Worlds.{WorldView, ReplicaView, begun}
 use Rattle.world_model.specs.Turns.{played}
-use Rattle.world_model.specs.Verdicts.{verdict_line, all_chunks, verdicts_on, replica_verdicts}
-use Rattle.world_model.specs.Summary.{replayed_of, verdicts_from, verdicts_of}
+use Rattle.world_model.specs.Verdicts.{verdict_line, all_chunks, replica_verdicts}
+use Rattle.world_model.specs.Summary.{replayed_of, verdicts_from}
 use Rattle.world_model.specs.Good.{ReplicaFits, IsGood}
 use Rattle.world_model.proofs.GoodLemmas.{each_world_fits}
 use Rattle.world_laws.specs.Replicas.{log_of, VerdictsCompare}
 use Rattle.world_laws.proofs.RunLemmas as world_laws
 use Rattle.headline_laws.specs.Lines.{HoldsUnlessPending, LineHolds, VerdictLinesHold, EachPrintedVerdictCompares, source_rows_at, replica_rows_at}
-use Rattle.headline_laws.proofs.ListLemmas.{each_joined, each_mapped, each_at}
+use Rattle.headline_laws.proofs.ListLemmas.{each_joined, each_mapped}
 
 -- a row that is not pending has the source's checksum, whose count a line prints
 counted : (master : Option Digest) (own : Digest) (count : ℕ) → verdict_against master own ≢ Pending → IfSome master (λ m. m.count ≡ count)

@@ -1,10 +1,9 @@
 -- The replays of what happened on nodes are tables of their schemas.
-use Rattle.std.proofs.Common.{◌≡◌, ◌∙◌, ℕ, zero, suc, ◌+◌, List, [], ◌∷◌, ◌++◌, length, map, take, refl, ap, sym, subst}
+use Rattle.std.proofs.Common.{◌≡◌, ℕ, zero, suc, ◌+◌, List, [], ◌∷◌, ◌++◌, length, map, take, refl, ap, sym, subst}
 use Rattle.std.specs.List.{AllByRecursion}
 use Rattle.row_types.specs.declared.table_schema.Schema.{Schema}
 use Rattle.row_types.specs.KeyRows.{TableRows}
 use Rattle.row_types.specs.Fit.{IsSchema, AreTables}
-use Rattle.ptc_statement.specs.Fits.{FitsSchemas}
 use Rattle.statement_log.specs.declared.entries.Entry.{Entry}
 use Rattle.history.specs.Replay.{Replayed, after_entry, position_of, replay_from, fold}
 use Rattle.node_model.specs.Node.{NodeView}

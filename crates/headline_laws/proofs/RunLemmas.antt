@@ -1,5 +1,5 @@
 -- What holds of each world holds of the one that a run ends in.
-use Rattle.std.proofs.Common.{◌≡◌, ◌∙◌, ℕ, zero, suc, List, [], ◌++◌, refl, ap, sym, subst}
+use Rattle.std.proofs.Common.{◌∙◌, ℕ, zero, suc, List, ◌++◌, refl, ap, sym, subst}
 use Rattle.workload.specs.declared.schedule.Item.{Item}
 use Rattle.workload.specs.declared.workloads.Workload.{Workload}
 use Rattle.world_model.specs.declared.options.RunOptions.{RunOptions}

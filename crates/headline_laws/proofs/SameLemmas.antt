@@ -1,5 +1,5 @@
 -- A table whose verdicts on a replica cover all keys and are SAME for good is EQUAL.
-use Rattle.std.proofs.Common.{◌≡◌, ◌≢◌, ◌∙◌, ℕ, zero, suc, ◌+◌, ◌-◌, ◌<◌, ◌≤◌, true, List, [], ◌∷◌, Option, None, Some, length, refl, ap, sym, subst, arith}
+use Rattle.std.proofs.Common.{◌≡◌, ◌≢◌, ◌∙◌, ℕ, zero, suc, ◌-◌, ◌<◌, ◌≤◌, true, List, [], ◌∷◌, Some, length, refl, ap, sym, subst, arith}
 use Rattle.std.specs.Prelude.{slice_index_or}
 use Rattle.std.specs.List.{AllByRecursion, slice_get}
 use Rattle.row_types.specs.declared.table_schema.Schema.{Schema}
@@ -8,8 +8,8 @@ use Rattle.row_types.specs.KeyRows.{TableRows}
 use Rattle.row_types.specs.Order.{has}
 use Rattle.checksum_table.specs.declared.check_rows.Verdict.{Verdict}
 use Rattle.checksum_table.specs.declared.check_rows.Verdict.TheVariants.{Same, Pending}
-use Rattle.history.specs.Replay.{chunk_rows, fold, source_at, replica_at, applied_of, Follows}
-use Rattle.history.specs.Headline.{DigestsDistinguish, NobodyElseWrites, AreEqualAtEnd}
+use Rattle.history.specs.Replay.{chunk_rows, fold, source_at, replica_at, applied_of}
+use Rattle.history.specs.Headline.{DigestsDistinguish, AreEqualAtEnd}
 use Rattle.report_text.specs.declared.summaries.VerdictLine.{VerdictLine}
 use Rattle.report_text.specs.declared.summaries.EqualLine.{EqualLine}
 use Rattle.node_model.proofs.CommitLemmas.{table_row}
@@ -22,13 +22,13 @@ use Rattle.world_model.specs.Summary.{verdicts_of, equals_of}
 use Rattle.world_laws.specs.Replicas.{log_of, FollowsSource}
 use Rattle.world_laws.proofs.RunLemmas as world_laws
 use Rattle.headline_laws.specs.Lines.{LineHolds, HoldsUnlessPending, VerdictLinesHold, source_rows_at, replica_rows_at}
-use Rattle.headline_laws.specs.Equals.{EqualLineHolds, HasLineOver, LinesCover, IsSameForGood, AreAllSame, HasAppliedAll, SameIsEqual, SameTablesEqual, SameTablesAreEqual}
+use Rattle.headline_laws.specs.Equals.{EqualLineHolds, HasLineOver, LinesCover, IsSameForGood, AreAllSame, HasAppliedAll, SameIsEqual, SameTablesAreEqual}
 use Rattle.headline_laws.proofs.ListLemmas.{each_is, each_at}
 use Rattle.headline_laws.proofs.ReplayLemmas.{fold_are, Replays, NodesReplay, nodes_replay}
 use Rattle.headline_laws.proofs.StayLemmas.{HasFollowed, row_stays, chunk_row, rows_are}
 use Rattle.headline_laws.proofs.LineLemmas.{each_compares}
 use Rattle.headline_laws.proofs.EqualLemmas.{equal_lines_hold}
-use Rattle.headline_laws.proofs.CoverLemmas.{FollowsHere, finished_covered}
+use Rattle.headline_laws.proofs.CoverLemmas.{finished_covered}
 
 -- an element that a list contains
 each_contained : {A : Type 0} (P : A → Type 0) (xs : List A) (k : ℕ) (x d : A) → AllByRecursion P xs → k < length xs → slice_index_or xs k d ≡ x → P x

@@ -1,5 +1,5 @@
 -- What a VERDICT line of a world's report means.
-use Rattle.std.specs.Prelude.{◌≡◌, ◌≢◌, ◌≤◌, ◌-◌, ◌↔◌, List, Some, length}
+use Rattle.std.specs.Prelude.{◌≡◌, ◌≢◌, ◌≤◌, ◌-◌, ◌↔◌, Some, length}
 use Rattle.std.specs.List.{AllByRecursion, slice_get}
 use Rattle.row_types.specs.KeyRows.{Rows}
 use Rattle.row_types.specs.declared.digests.DigestKind.{DigestKind}
