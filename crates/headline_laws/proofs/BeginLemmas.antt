@@ -51,6 +51,7 @@ each_began options workload items can clients =
       replica_schemas = each_is (λ (replica : ReplicaView). NodeKept workload.schemas.tables replica.node) (λ (replica : ReplicaView). replica.node.schemas ≡ workload.schemas.tables) world.replicas
           (λ replica known. known.same) kept.nodes;
       scripts = kept.scripts;
+      local_scripts = kept.locals;
     }
 
 -- as many sessions as the workload has scripts

@@ -8,7 +8,7 @@ use Rattle.ptc_statement.specs.declared.scripts.Script.{Script}
 use Rattle.ptc_statement.specs.declared.scripts.ScriptLine.{ScriptLine}
 use Rattle.statement_log.specs.declared.entries.Entry.{Entry}
 use Rattle.statement_log.specs.declared.origins.Origin.{Origin}
-use Rattle.statement_log.specs.declared.origins.Origin.TheVariants.{Session}
+use Rattle.statement_log.specs.declared.origins.Origin.TheVariants.{Session, Local}
 use Rattle.node_model.specs.Node.{NodeView}
 use Rattle.node_model.specs.Calls.{Call, Begin, Start, Visit, Commit, Rollback, Publish}
 use Rattle.node_model.proofs.CallLemmas.{fresh_kept}
@@ -36,7 +36,7 @@ use Rattle.world_model.specs.Good.{SessionFits, ReplicaFits, IsGood}
 use Rattle.world_model.specs.Worlds.{WorldView, ReplicaView, begun_sessions, begun_replicas, begun}
 use Rattle.world_model.specs.Turns.{off, session_at, tool_turn, ReplicaTurned, off_there, local_at, local_turn, is_worker, worker_turned, worker_turn, replica_at, on_replica, turn, move, is_written, line_of, written_if, stepped, played}
 use Rattle.world_model.proofs.GoodLemmas.{each_world_fits}
-use Rattle.headline_laws.specs.Begins.{start_of, script_of, lines_of, IsLogWriter, EachWroteHere}
+use Rattle.headline_laws.specs.Begins.{start_of, script_of, local_scripts_of, lines_of, IsLogWriter, EachWroteHere}
 use Rattle.headline_laws.proofs.ListLemmas.{each_is, each_at, each_set, map_set}
 use Rattle.headline_laws.proofs.LeaveLemmas.{Leaves, CommitsAs, calls_leave, tool_leaves}
 use Rattle.headline_laws.proofs.FitLemmas.{FitsThere, NodeKept, calls_keep, session_fits_there, worker_fits_there}
@@ -47,6 +47,7 @@ pub record Kept (workload : Workload) (world : WorldView) : Type 0 where
   pub start : world.source.start ≡ workload.source
   pub starts : map start_of world.replicas ≡ workload.copies
   pub scripts : map script_of world.sessions ≡ map lines_of workload.sessions
+  pub locals : map local_scripts_of world.replicas ≡ map (map lines_of) workload.locals
   pub origins : AllByRecursion (λ (one : SessionView). IsLogWriter (length workload.sessions) one.origin) world.sessions
   pub wrote : EachWroteHere (length workload.sessions) world.source.history
   pub nodes : AllByRecursion (λ (replica : ReplicaView). NodeKept workload.schemas.tables replica.node) world.replicas
@@ -80,6 +81,7 @@ session_kept workload world place (Some one) at good kept =
       start = leaves.start ∙ kept.start;
       starts = kept.starts;
       scripts = map_set script_of world.sessions place one moved.session at stays.2 ∙ kept.scripts;
+      locals = kept.locals;
       origins = each_set (λ (s : SessionView). P s.origin) world.sessions place moved.session (subst P (sym stays.1) writer) kept.origins;
       wrote = leaves.wrote kept.wrote;
       nodes = kept.nodes;
@@ -97,6 +99,7 @@ tool_kept workload world kept =
       start = leaves.start ∙ kept.start;
       starts = kept.starts;
       scripts = kept.scripts;
+      locals = kept.locals;
       origins = kept.origins;
       wrote = leaves.wrote kept.wrote;
       nodes = kept.nodes;
@@ -130,19 +133,29 @@ led_kept schemas P old new fits led =
 stays_there : (schemas : List Schema) (node : NodeView) → KeptThere schemas node node
 stays_there schemas node = record { start = refl; known = λ known. known }
 
+-- a turn keeps the scripts of local sessions, too
+pub record ReplicaKept (schemas : List Schema) (old new : ReplicaView) : Type 0 where
+  pub node : KeptThere schemas old.node new.node
+  pub scripts : local_scripts_of new ≡ local_scripts_of old
+
+replica_stays : (schemas : List Schema) (replica : ReplicaView) → ReplicaKept schemas replica replica
+replica_stays schemas replica = record { node = stays_there schemas replica.node; scripts = refl }
+
 local_kept : (schemas : List Schema) (number retries place : ℕ) (found : Option SessionView) (replica : ReplicaView) → slice_get replica.locals place ≡ found → ReplicaFits schemas replica
-    → KeptThere schemas replica.node (local_at number retries place found replica).replica.node
-local_kept schemas number retries place None replica at fits = stays_there schemas replica.node
-local_kept schemas number retries place (Some one) replica at fits =
-    led_kept schemas (IsSessions one) replica.node (session.next_move retries one replica.node).node
-    (session_fits_there schemas one (each_at (SessionFits schemas) replica.locals place one fits.locals_fit at)) (sessions_make_calls retries one replica.node)
+    → ReplicaKept schemas replica (local_at number retries place found replica).replica
+local_kept schemas number retries place None replica at fits = replica_stays schemas replica
+local_kept schemas number retries place (Some one) replica at fits = record {
+  node = led_kept schemas (IsSessions one) replica.node (session.next_move retries one replica.node).node
+      (session_fits_there schemas one (each_at (SessionFits schemas) replica.locals place one fits.locals_fit at)) (sessions_make_calls retries one replica.node);
+  scripts = map_set script_of replica.locals place one (session.next_move retries one replica.node).session at (sessions_stay retries one replica.node).2;
+}
 
 local_turn_kept : (schemas : List Schema) (number retries local : ℕ) (replica : ReplicaView) → ReplicaFits schemas replica
-    → KeptThere schemas replica.node (local_turn number retries local replica).replica.node
+    → ReplicaKept schemas replica (local_turn number retries local replica).replica
 local_turn_kept schemas number retries local replica fits = at (local == 0)
   where
-    at : (b : Bool) → KeptThere schemas replica.node (cond b (off_there replica) (local_at number retries (local - 1) (slice_get replica.locals (local - 1)) replica)).replica.node
-    at true = stays_there schemas replica.node
+    at : (b : Bool) → ReplicaKept schemas replica (cond b (off_there replica) (local_at number retries (local - 1) (slice_get replica.locals (local - 1)) replica)).replica
+    at true = replica_stays schemas replica
     at false = local_kept schemas number retries (local - 1) (slice_get replica.locals (local - 1)) replica refl fits
 
 worker_kept : (schemas : List Schema) (worker : ℕ) (log : List Entry) (team : ApplierView) (node : NodeView) (found : Option Worker) → slice_get team.workers (worker - 1) ≡ found → LogFits schemas log
@@ -152,15 +165,18 @@ worker_kept schemas worker log team node (Some one) at fit =
     led_kept schemas (IsWorkers one.owner log) node (applier.next_move worker log team node).node (worker_fits_there schemas one.owner log fit) (workers_make_calls worker log team node one at)
 
 worker_turn_kept : (schemas : List Schema) (number worker : ℕ) (log : List Entry) (replica : ReplicaView) → LogFits schemas log
-    → KeptThere schemas replica.node (worker_turn number worker log replica).replica.node
+    → ReplicaKept schemas replica (worker_turn number worker log replica).replica
 worker_turn_kept schemas number worker log replica fit = at (is_worker worker replica)
   where
-    at : (b : Bool) → KeptThere schemas replica.node (cond b (worker_turned number (applier.next_move worker log replica.applier replica.node) replica) (off_there replica)).replica.node
-    at true = worker_kept schemas worker log replica.applier replica.node (slice_get replica.applier.workers (worker - 1)) refl fit
-    at false = stays_there schemas replica.node
+    at : (b : Bool) → ReplicaKept schemas replica (cond b (worker_turned number (applier.next_move worker log replica.applier replica.node) replica) (off_there replica)).replica
+    at true = record {
+      node = worker_kept schemas worker log replica.applier replica.node (slice_get replica.applier.workers (worker - 1)) refl fit;
+      scripts = refl;
+    }
+    at false = replica_stays schemas replica
 
 replica_kept : (workload : Workload) (world : WorldView) (place : ℕ) (found : Option ReplicaView) (turn_there : ReplicaView → ReplicaTurned) → slice_get world.replicas place ≡ found
-    → ((replica : ReplicaView) → found ≡ Some replica → KeptThere workload.schemas.tables replica.node (turn_there replica).replica.node)
+    → ((replica : ReplicaView) → found ≡ Some replica → ReplicaKept workload.schemas.tables replica (turn_there replica).replica)
     → Kept workload world → Kept workload (replica_at place found turn_there world).world
 replica_kept workload world place None turn_there at there kept = kept
 replica_kept workload world place (Some replica) turn_there at there kept =
@@ -168,16 +184,17 @@ replica_kept workload world place (Some replica) turn_there at there kept =
     record {
       schemas = kept.schemas;
       start = kept.start;
-      starts = map_set start_of world.replicas place replica (turn_there replica).replica at here.start ∙ kept.starts;
+      starts = map_set start_of world.replicas place replica (turn_there replica).replica at here.node.start ∙ kept.starts;
       scripts = kept.scripts;
+      locals = map_set local_scripts_of world.replicas place replica (turn_there replica).replica at here.scripts ∙ kept.locals;
       origins = kept.origins;
       wrote = kept.wrote;
       nodes = each_set (λ (one : ReplicaView). NodeKept workload.schemas.tables one.node) world.replicas place (turn_there replica).replica
-          (here.known (each_at (λ (one : ReplicaView). NodeKept workload.schemas.tables one.node) world.replicas place replica kept.nodes at)) kept.nodes;
+          (here.node.known (each_at (λ (one : ReplicaView). NodeKept workload.schemas.tables one.node) world.replicas place replica kept.nodes at)) kept.nodes;
     }
 
 on_replica_kept : (workload : Workload) (world : WorldView) (number : ℕ) (turn_there : ReplicaView → ReplicaTurned)
-    → ((replica : ReplicaView) → slice_get world.replicas (number - 1) ≡ Some replica → KeptThere workload.schemas.tables replica.node (turn_there replica).replica.node)
+    → ((replica : ReplicaView) → slice_get world.replicas (number - 1) ≡ Some replica → ReplicaKept workload.schemas.tables replica (turn_there replica).replica)
     → Kept workload world → Kept workload (on_replica number turn_there world).world
 on_replica_kept workload world number turn_there there kept = at (number == 0)
   where
@@ -221,6 +238,7 @@ written_kept workload true line world kept = record {
   start = kept.start;
   starts = kept.starts;
   scripts = kept.scripts;
+  locals = kept.locals;
   origins = kept.origins;
   wrote = kept.wrote;
   nodes = kept.nodes;
@@ -263,6 +281,15 @@ begun_starts options schemas number (start ∷ copies) [] same = absurd (omega (
 begun_starts options schemas number (start ∷ copies) (scripts ∷ locals) same =
     ap (λ (more : List TableRows). start ∷ more) (begun_starts options schemas (number + 1) copies locals (omega (arith, same)))
 
+begun_locals : (options : RunOptions) (schemas : List Schema) (number : ℕ) (copies : List TableRows) (locals : List (List Script)) → length locals ≡ length copies
+    → map local_scripts_of (begun_replicas options schemas number copies locals) ≡ map (map lines_of) locals
+begun_locals options schemas number [] [] same = refl
+begun_locals options schemas number [] (scripts ∷ locals) same = absurd (omega (arith, same))
+begun_locals options schemas number (start ∷ copies) [] same = refl
+begun_locals options schemas number (start ∷ copies) (scripts ∷ locals) same =
+    ap (λ (first : List (List ScriptLine)). first ∷ map local_scripts_of (begun_replicas options schemas (number + 1) copies locals)) (begun_scripts Local 1 scripts)
+    ∙ ap (λ (more : List (List (List ScriptLine))). map lines_of scripts ∷ more) (begun_locals options schemas (number + 1) copies locals (omega (arith, same)))
+
 begun_nodes : (options : RunOptions) (schemas : List Schema) (number : ℕ) (copies : List TableRows) (locals : List (List Script)) → AllByRecursion (AreTables schemas) copies
     → AllByRecursion (λ (replica : ReplicaView). NodeKept schemas replica.node) (begun_replicas options schemas number copies locals)
 begun_nodes options schemas number [] locals are = tt
@@ -276,6 +303,7 @@ begun_kept options workload can = record {
   start = refl;
   starts = begun_starts options workload.schemas.tables 1 workload.copies workload.locals (can.runnable.each_local ∙ sym can.runnable.replicas);
   scripts = begun_scripts Session 1 workload.sessions;
+  locals = begun_locals options workload.schemas.tables 1 workload.copies workload.locals (can.runnable.each_local ∙ sym can.runnable.replicas);
   origins = begun_origins (length workload.sessions) 1 workload.sessions (omega arith) (omega arith);
   wrote = tt;
   nodes = begun_nodes options workload.schemas.tables 1 workload.copies workload.locals can.runnable.copies;

@@ -25,11 +25,14 @@ start_of replica = replica.node.start
 abbrev pub script_of : SessionView → List ScriptLine
 script_of session = session.script
 
+abbrev pub local_scripts_of : ReplicaView → List (List ScriptLine)
+local_scripts_of replica = map script_of replica.locals
+
 abbrev pub lines_of : Script → List ScriptLine
 lines_of script = script.lines
 
 -- a world began from the workload, under these options: it has its schedule, its schemas, the start rows of its nodes, and
--- the scripts of the source's sessions
+-- the scripts of their sessions
 pub record BeganFrom (options : RunOptions) (workload : Workload) (world : WorldView) : Type 0 where
   pub under : world.options ≡ options
   pub schedule : world.schedule ≡ workload.schedule
@@ -38,6 +41,7 @@ pub record BeganFrom (options : RunOptions) (workload : Workload) (world : World
   pub replica_starts : map start_of world.replicas ≡ workload.copies
   pub replica_schemas : AllByRecursion (λ (replica : ReplicaView). replica.node.schemas ≡ workload.schemas.tables) world.replicas
   pub scripts : map script_of world.sessions ≡ map lines_of workload.sessions
+  pub local_scripts : map local_scripts_of world.replicas ≡ map (map lines_of) workload.locals
 
 -- who writes the source's log: its sessions, which are numbered from 1, and the checksum tool
 abbrev pub IsLogWriter : ℕ → Origin → Type 0

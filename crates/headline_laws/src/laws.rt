@@ -3,8 +3,8 @@ ghost use Rattle.headline_laws.specs.Equals.{EachTableHasItsLine, SameTablesAreE
 ghost use Rattle.headline_laws.specs.Headline.{RunsHold};
 ghost use Rattle.headline_laws.specs.Lines.{EachPrintedVerdictCompares};
 
-/// Whatever items are played, the world began from its workload: its options are those of the run, its schedule, its
-/// schemas, its start rows and its sessions' scripts those of the workload.
+/// Whatever items are played, the world began from its workload: its options are those of the run, and its schedule, its
+/// schemas, its start rows and the scripts of its sessions, on the source and on each replica, are those of the workload.
 #[tactic(auto, using(crate::proofs::BeginLemmas::each_began))]
 pub fn each_world_began_from_its_workload()
     ensures { EachWorldBegan }
