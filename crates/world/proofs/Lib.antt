@@ -1,0 +1,8 @@
+mod JournalLemmas
+mod StepLemmas
+mod SessionLemmas
+mod TurnLemmas
+mod CycleLemmas
+mod BeginLemmas
+mod RoundLemmas
+mod RunLemmas

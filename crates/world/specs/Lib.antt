@@ -1,0 +1,9 @@
+pub mod ReplicaParts
+pub mod SessionTurns
+pub mod NoteCycles
+pub mod Teams
+pub mod WorldParts
+pub mod WorldInside
+pub mod Plays
+pub mod Runs
+pub mod RunOf
