@@ -4,3 +4,4 @@ mod ListLemmas
 mod OwnLemmas
 mod LeaveLemmas
 mod TurnLemmas
+pub mod StandLemmas

@@ -473,7 +473,7 @@ event_fine : (g : Ground) (retries : ℕ) (event : Event) (session : SessionView
 event_fine g retries Own session node fits f = turn_fine g retries session node f
 event_fine g retries (Other call) session node fits f = call_fine g call session node fits f
 
-events_fine : (g : Ground) (retries : ℕ) (events : List Event) (session : SessionView) (node : NodeView) → AllByRecursion (EventFits g.owner g.origin) events → Fine g session node
+pub events_fine : (g : Ground) (retries : ℕ) (events : List Event) (session : SessionView) (node : NodeView) → AllByRecursion (EventFits g.owner g.origin) events → Fine g session node
     → Fine g (after_events retries events (record { session = session; node = node })).session (after_events retries events (record { session = session; node = node })).node
 events_fine g retries [] session node fits f = f
 events_fine g retries (event ∷ events) session node fits f =
@@ -482,7 +482,7 @@ events_fine g retries (event ∷ events) session node fits f =
 
 -- at first, and what this says
 
-at_first : (g : Ground) (node : NodeView) → node.schemas ≡ g.schemas → own_entries g.origin node.history ≡ g.start → is_whole false g.script ≡ true → txn_of g.owner.0 node.txns ≡ None → Fine g (new_session g.owner g.origin g.script) node
+pub at_first : (g : Ground) (node : NodeView) → node.schemas ≡ g.schemas → own_entries g.origin node.history ≡ g.start → is_whole false g.script ≡ true → txn_of g.owner.0 node.txns ≡ None → Fine g (new_session g.owner g.origin g.script) node
 at_first g node schemas start whole none = record {
   behind = [];
   mid = [];

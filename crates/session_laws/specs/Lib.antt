@@ -1,1 +1,2 @@
 pub mod OwnCalls
+pub mod Standing
