@@ -1,12 +1,12 @@
-mod ListLemmas
+pub mod ListLemmas
 mod ClientLemmas
 mod GrowLemmas
 mod SourceLemmas
-mod ReplicaLemmas
-mod OwnLemmas
-mod StepLemmas
-mod OwnStepLemmas
+pub mod ReplicaLemmas
+pub mod OwnLemmas
+pub mod StepLemmas
+pub mod OwnStepLemmas
 mod BeginLemmas
-mod OwnRunLemmas
+pub mod OwnRunLemmas
 pub mod SoundLemmas
 pub mod RunLemmas

@@ -75,6 +75,7 @@ begun_all options schemas number (start ∷ copies) (scripts ∷ locals) fit ord
     few = begun_few Local 1 16 scripts fit.0.1;
     each = begun_each options.retries Local (fresh_node schemas start) 1 scripts fit.0.0 order.0;
     workers = above options.workers;
+    running = refl;
   },
   begun_all options schemas (number + 1) copies locals fit.1 order.1,
 )
@@ -91,7 +92,7 @@ own_begun options workload can order = record {
   replicas = begun_all options workload.schemas.tables 1 workload.copies workload.locals can.runnable.locals order.locals;
 }
 
-own : (options : RunOptions) (workload : Workload) (items : List Item) → CanRun options workload → AreClients workload → AreInOrder workload → OwnHolds workload (played items (begun options workload))
+pub own : (options : RunOptions) (workload : Workload) (items : List Item) → CanRun options workload → AreClients workload → AreInOrder workload → OwnHolds workload (played items (begun options workload))
 own options workload items can clients order =
     own_played options workload items (begun options workload) can (begun_holds options workload can clients) (own_begun options workload can order)
 

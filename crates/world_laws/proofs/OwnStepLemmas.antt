@@ -65,13 +65,14 @@ pub record SourceHolds (retries : ℕ) (first : NodeView) (tool : ToolView) (ses
   pub few : length sessions ≤ 64
   pub each : EachLed retries Session first node 1 sessions
 
--- a replica and its local sessions; its workers hold locks as 201 and so on
+-- a replica and its local sessions; its workers hold locks as 201 and so on, and nobody stopped them
 pub record ReplicaHolds (retries : ℕ) (replica : ReplicaView) : Type 0 where
   pub schemas : List Schema
   pub start : TableRows
   pub few : length replica.locals ≤ 16
   pub each : EachLed retries Local (fresh_node schemas start) replica.node 1 replica.locals
   pub workers : AllByRecursion (λ (owner : Owner). 200 < owner.0) (owners_of replica.applier.workers)
+  pub running : replica.applier.stopped ≡ false
 
 pub record OwnHolds (workload : Workload) (world : WorldView) : Type 0 where
   pub source : SourceHolds world.options.retries (fresh_node workload.schemas.tables workload.source) world.tool world.sessions world.source
@@ -214,6 +215,7 @@ local_holds retries number local replica h = at (local == 0)
       few = subst (λ (count : ℕ). count ≤ 16) (sym (length-set replica.locals (local - 1) (next_move retries session replica.node).session)) h.few;
       each = each_turned retries Local (fresh_node h.schemas h.start) replica.node (local - 1) 1 replica.locals session locals_apart e h.each;
       workers = h.workers;
+      running = h.running;
     }
 
     at : (b : Bool) → ReplicaHolds retries (cond b (off_there replica) (local_at number retries (local - 1) (slice_get replica.locals (local - 1)) replica)).replica
@@ -263,6 +265,7 @@ worker_holds retries number worker log replica h = at (is_worker worker replica)
       few = h.few;
       each = workers_each retries worker log replica h (slice_get replica.applier.workers (worker - 1)) refl;
       workers = subst (AllByRecursion (λ (owner : Owner). 200 < owner.0)) (sym (appliers_stay worker log replica.applier replica.node).1) h.workers;
+      running = h.running;
     }
     at false = h
 

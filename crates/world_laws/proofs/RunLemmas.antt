@@ -27,7 +27,7 @@ use Rattle.world_laws.proofs.ReplicaLemmas.{IsLed}
 use Rattle.world_laws.proofs.StepLemmas.{WorldHolds, played_holds}
 use Rattle.world_laws.proofs.BeginLemmas.{begun_holds}
 
-holds : (options : RunOptions) (workload : Workload) (items : List Item) → CanRun options workload → AreClients workload → WorldHolds options workload (played items (begun options workload))
+pub holds : (options : RunOptions) (workload : Workload) (items : List Item) → CanRun options workload → AreClients workload → WorldHolds options workload (played items (begun options workload))
 holds options workload items can clients = played_holds options workload items (begun options workload) (begun_holds options workload can clients)
 
 told_there : (options : RunOptions) (workload : Workload) (world : WorldView) → CanRun options workload → WorldHolds options workload world → Told world.tool world.source

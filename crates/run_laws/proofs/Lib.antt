@@ -1,0 +1,6 @@
+mod ListLemmas
+mod SessionLemmas
+mod ToolLemmas
+mod WorkerLemmas
+mod ActorLemmas
+mod EndLemmas
