@@ -1,6 +1,6 @@
 -- What is known of each session is known before the first move, and says that each wrote its own calls.
-use Rattle.std.proofs.Common.{◌≡◌, ℕ, zero, suc, ◌+◌, ◌≤◌, ◌<◌, List, [], ◌∷◌, ◌++◌, Some, length, refl, ap, sym, subst, arith}
-use Rattle.std.specs.List.{AllByRecursion, slice_get}
+use Rattle.std.proofs.Common.{◌≡◌, ℕ, zero, suc, ◌+◌, ◌≤◌, ◌<◌, List, [], ◌∷◌, ◌++◌, length, refl, ap, sym, subst, arith}
+use Rattle.std.specs.List.{AllByRecursion}
 use Rattle.row_types.specs.declared.table_schema.Schema.{Schema}
 use Rattle.row_types.specs.KeyRows.{TableRows}
 use Rattle.ptc_statement.specs.declared.scripts.Script.{Script}
@@ -18,7 +18,7 @@ use Rattle.workload.specs.declared.schedule.Item.{Item}
 use Rattle.workload.specs.declared.workloads.Workload.{Workload}
 use Rattle.world_model.specs.declared.options.RunOptions.{RunOptions}
 use Rattle.world_model.specs.CanRun.{CanRun, ScriptsFit, LocalsFit}
-use Rattle.world_model.specs.Worlds.{WorldView, ReplicaView, begun_sessions, begun_replica, begun_replicas, begun}
+use Rattle.world_model.specs.Worlds.{WorldView, ReplicaView, begun_sessions, begun_replicas, begun}
 use Rattle.world_model.specs.Turns.{played}
 use Rattle.world_laws.specs.Clients.{AreClients}
 use Rattle.world_laws.specs.InOrder.{IsInOrder, AreInOrder}

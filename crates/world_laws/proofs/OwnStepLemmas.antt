@@ -1,18 +1,15 @@
 -- What is known of each session of a world is known after each item that is played.
-use Rattle.std.proofs.Common.{◌≡◌, ◌≢◌, ◌∙◌, inl, inr, ℕ, zero, suc, ◌+◌, ◌-◌, ◌<◌, ◌≤◌, ◌==◌, Bool, true, false, cond, List, [], ◌∷◌, Option, None, Some, map, length, refl, ap, sym, subst, arith}
+use Rattle.std.proofs.Common.{◌≡◌, ◌≢◌, ◌∙◌, inl, inr, ℕ, zero, suc, ◌+◌, ◌-◌, ◌<◌, ◌≤◌, ◌==◌, Bool, true, false, cond, List, [], ◌∷◌, Option, None, Some, length, refl, ap, sym, subst, arith}
 use Rattle.std.specs.Prelude.{slice_set}
 use Rattle.std.specs.List.{AllByRecursion, slice_get}
 use Rattle.std.proofs.lemmas.List.{length-set}
 use Rattle.row_types.specs.declared.table_schema.Schema.{Schema}
 use Rattle.row_types.specs.KeyRows.{TableRows}
 use Rattle.ptc_statement.specs.declared.statements.Statement.{Statement}
-use Rattle.ptc_statement.specs.declared.statements.Statement.TheVariants.{ClearChecks}
 use Rattle.ptc_statement.specs.declared.scripts.ScriptLine.{ScriptLine}
-use Rattle.ptc_statement.specs.declared.scripts.ScriptStep.{ScriptStep}
 use Rattle.ptc_statement.specs.Fits.{FitsSchemas}
 use Rattle.statement_log.specs.declared.entries.Entry.{Entry}
-use Rattle.statement_log.specs.declared.origins.Origin.{Origin}
-use Rattle.statement_log.specs.declared.origins.Origin.TheVariants.{Session, Checksum, Local, Applied}
+use Rattle.statement_log.specs.declared.origins.Origin.TheVariants.{Session, Local}
 use Rattle.lock_table.specs.declared.wants.Owner.{Owner}
 use Rattle.lock_table.proofs.HoldLemmas.{other_number}
 use Rattle.node_model.specs.Node.{NodeView}
@@ -21,7 +18,6 @@ use Rattle.node_model.specs.Calls.{Call, Begin, Start, Visit, Commit, Rollback, 
 use Rattle.node_model.proofs.CallLemmas.{same_schemas, calls_kept}
 use Rattle.session.specs.Sessions.{SessionView, RunFits}
 use Rattle.session.specs.Moves.{next_move}
-use Rattle.session.proofs.StayLemmas.{next_stays}
 use Rattle.session_laws.specs.OwnCalls.{is_own, IsOthers}
 use Rattle.applier.specs.declared.workers.Worker.{Worker}
 use Rattle.applier.specs.Moves as worker_moves
@@ -46,7 +42,7 @@ use Rattle.trace_text.specs.declared.notes.Note.TheVariants.{Off}
 use Rattle.world_model.specs.declared.options.RunOptions.{RunOptions}
 use Rattle.world_model.specs.CanRun.{CanRun}
 use Rattle.world_model.specs.Worlds.{WorldView, ReplicaView}
-use Rattle.world_model.specs.Turns.{session_turned, session_at, session_turn, tool_turn, ReplicaTurned, off_there, local_at, local_turn, worker_turned, is_worker, worker_turn, replica_at, on_replica, turn, move, line_of, written_if, is_written, stepped, played}
+use Rattle.world_model.specs.Turns.{session_at, session_turn, ReplicaTurned, off_there, local_at, local_turn, worker_turned, is_worker, worker_turn, replica_at, on_replica, turn, move, line_of, written_if, is_written, stepped, played}
 use Rattle.world_laws.proofs.ListLemmas.{each_is, each_set, each_at}
 use Rattle.world_laws.proofs.OwnLemmas.{TellsApart, owner_of, IsLed, EachLed, each_called, each_turned, led_at}
 use Rattle.world_laws.proofs.StepLemmas.{WorldHolds, first_course, step_holds}
