@@ -55,7 +55,7 @@ rounds_reach first (suc count) world reaches = rounds_reach first count (round w
   reached = ap (played (order world)) reaches.reached ∙ sym (played-append reaches.items (order world) first);
 })
 
-end_reached : (first last : WorldView) → EndsIn first last → Reaches first last
+pub end_reached : (first last : WorldView) → EndsIn first last → Reaches first last
 end_reached first last ends = subst (Reaches first) (sym ends.reached) (rounds_reach first ends.count (behind_schedule first) (record { items = unplayed first; reached = refl }))
 
 -- What is known of the world that items make.

@@ -4,3 +4,4 @@ mod ToolLemmas
 mod WorkerLemmas
 mod ActorLemmas
 mod EndLemmas
+mod CallLemmas
