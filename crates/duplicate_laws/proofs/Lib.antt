@@ -1,0 +1,5 @@
+pub mod LinkLemmas
+pub mod MeetLemmas
+pub mod HereLemmas
+pub mod WorldLemmas
+pub mod RunLemmas

@@ -1,0 +1,6 @@
+//! What the DUPLICATE lines of a run's report mean.
+#![tactic(auto)]
+
+mod laws;
+
+pub use laws::each_duplicate_was_there;
