@@ -1,5 +1,7 @@
+pub mod SpareLemmas
 pub mod LinkLemmas
 pub mod MeetLemmas
+pub mod OtherLemmas
 pub mod HereLemmas
 pub mod WorldLemmas
 pub mod RunLemmas

@@ -1,6 +1,6 @@
 -- A session's statement in progress on its node is that of the next line of its script, through each turn.
-use Rattle.std.proofs.Common.{◌≡◌, ◌∙◌, ◌⊎◌, inl, inr, ℕ, ◌+◌, ◌==◌, Bool, true, false, cond, List, [], ◌∷◌, ◌++◌, Option, None, Some, refl, ap, sym, subst}
-use Rattle.std.specs.Prelude.{is_some, not, ◌&&◌}
+use Rattle.std.proofs.Common.{◌≡◌, ◌∙◌, inl, inr, ℕ, ◌+◌, ◌==◌, Bool, true, false, cond, List, [], ◌∷◌, ◌++◌, Option, None, Some, refl, ap, sym, subst}
+use Rattle.std.specs.Prelude.{is_some, option_and_then, not, ◌&&◌}
 use Rattle.std.specs.List.{slice_get}
 use Rattle.ptc_statement.specs.declared.statements.Statement.{Statement}
 use Rattle.ptc_statement.specs.declared.scripts.ScriptLine.{ScriptLine}
@@ -26,8 +26,8 @@ use Rattle.session.specs.declared.stages.Stage.{Stage}
 use Rattle.session.specs.declared.stages.Stage.TheVariants.{Between, Within, Alone}
 use Rattle.session.specs.declared.stages.SessionTurn.TheVariants.{Victim}
 use Rattle.session.specs.Sessions.{SessionView, is_open, entered_alone, rolled_back}
-use Rattle.session.specs.Moves.{Moved, is_victim, after_answer, visit_move, commit_move, step_move, line_move, idle_move, begun_move, next_move}
-use Rattle.session_laws.proofs.CallLemmas.{own_moved}
+use Rattle.session.specs.Moves.{Moved, is_victim, after_answer, visit_move, step_move, line_move, idle_move, begun_move, next_move}
+use Rattle.duplicate_laws.proofs.SpareLemmas.{own_moved, IsLeft}
 use Rattle.turn_laws.proofs.StayLemmas.{sessions_stay}
 
 -- the line at this place of a script runs the statement
@@ -73,9 +73,6 @@ some_idle : (txn : Option Txn) (one : Txn) → txn ≡ Some one → one.current 
 some_idle txn one is none = subst IsIdle (sym is) none
 
 -- what the others leave of it
-
-abbrev pub IsLeft : Option Txn → Option Txn → Type 0
-IsLeft old new = (new ≡ old) ⊎ (new ≡ None)
 
 pub left_links : (script : List ScriptLine) (place : ℕ) (old new : Option Txn) → IsLeft old new → Links script place old → Links script place new
 left_links script place old new (inl same) links = subst (Links script place) (sym same) links
@@ -226,18 +223,14 @@ idle_moves session node idle Alone = commit_links session node session.next idle
 idle_moves session node idle Within = line_links session node idle (slice_get session.script session.next) refl
 idle_moves session node idle Between = line_links session node idle (slice_get session.script session.next) refl
 
-walk_idle : (txn : Option Txn) (owner : ℕ) (txns : List Txn) → txn_of owner txns ≡ txn → walk_of owner txns ≡ None → IsIdle txn
-walk_idle None owner txns found none = tt
-walk_idle (Some txn) owner txns found none = let is : walk_of owner txns ≡ txn.current = ap (λ (o : Option Txn). current_of o) found in sym is ∙ none
-  where
-    current_of : Option Txn → Option Walk
-    current_of None = None
-    current_of (Some txn) = txn.current
+walk_idle : (owner : ℕ) (txns : List Txn) (txn : Option Txn) → txn_of owner txns ≡ txn → walk_of owner txns ≡ None → IsIdle txn
+walk_idle owner txns None found none = tt
+walk_idle owner txns (Some txn) found none = sym (ap (option_and_then (λ (t : Txn). t.current)) found) ∙ none
 
 begun_links : (retries : ℕ) (session : SessionView) (node : NodeView) → IsLinked session node → (walk : Option Walk) → walk_of session.owner.0 node.txns ≡ walk
     → Stays session (begun_move retries walk session node)
 begun_links retries session node links (Some walk) is = visit_links retries session node links (slice_get session.script session.next)
-begun_links retries session node links None is = idle_moves session node (walk_idle (txn_of session.owner.0 node.txns) session.owner.0 node.txns refl is) session.stage
+begun_links retries session node links None is = idle_moves session node (walk_idle session.owner.0 node.txns (txn_of session.owner.0 node.txns) refl is) session.stage
 
 -- another's turn has rolled the transaction back
 victim_links : (retries : ℕ) (session : SessionView) (node : NodeView) → IsLinked session node → is_victim session node ≡ true

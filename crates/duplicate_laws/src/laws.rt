@@ -3,7 +3,6 @@ ghost use Rattle.duplicate_laws.specs.Duplicates.{EachDuplicateWasThere};
 /// Whatever items are played, each line that is printed as DUPLICATE, and each other line that a session counts as
 /// refused, was an INSERT of this session whose key was there at its own turn: there is a turn of the session at which
 /// it was the next line, a row was live at its key on the session's node, and the node answered Duplicate.
-#[tactic(auto, using(crate::proofs::RunLemmas::each_was_there))]
 pub fn each_duplicate_was_there()
     ensures { EachDuplicateWasThere }
 {}

@@ -8,7 +8,7 @@ use Rattle.world_model.specs.Turns.{move, is_written, line_of, written_if, stepp
 use Rattle.world_model.specs.Rounds.{order, round, rounds, moves_in, IsBehindSchedule, IsStill, behind_schedule, EndsIn, Exceeds}
 use Rattle.world_model.proofs.ReplayLemmas.{move_keeps}
 use Rattle.world_model.proofs.RoundLemmas.{played_behind, schedule_behind, rounds_still}
-use Rattle.limit_laws.specs.Limits.{MovesOnlyGrow, IsWithinLimit, WithinOrExceeds, RunsEndWithinOrExceed}
+use Rattle.limit_laws.specs.Limits.{MovesOnlyGrow, IsWithinLimit, RunsEndWithinOrExceed}
 
 one_more : (lines : List JournalLine) (line : JournalLine) → moves_in lines ≤ moves_in (lines ++ line ∷ [])
 one_more [] line = omega arith
