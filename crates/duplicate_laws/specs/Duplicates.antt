@@ -1,5 +1,5 @@
 -- What a line that is printed as DUPLICATE means.
-use Rattle.std.specs.Prelude.{ℕ, ◌≡◌, ◌+◌, ◌-◌, List, ◌∷◌, ◌++◌, Option, None, Some}
+use Rattle.std.specs.Prelude.{ℕ, ◌≡◌, ◌⊎◌, ◌+◌, ◌-◌, List, ◌∷◌, ◌++◌, Option, None, Some}
 use Rattle.std.specs.List.{AllByRecursion, slice_get}
 use Rattle.row_types.specs.declared.values.Value.{Value}
 use Rattle.row_types.specs.declared.table_schema.Schema.{Schema}
@@ -8,7 +8,8 @@ use Rattle.ptc_statement.specs.declared.statements.Statement.{Statement}
 use Rattle.ptc_statement.specs.declared.statements.Statement.TheVariants.{Insert}
 use Rattle.ptc_statement.specs.declared.scripts.ScriptLine.{ScriptLine}
 use Rattle.ptc_statement.specs.declared.scripts.ScriptStep.TheVariants.{Run}
-use Rattle.node_model.specs.Node.{NodeView, live_row}
+use Rattle.lock_table.specs.Locks.{exclusive_owner}
+use Rattle.node_model.specs.Node.{NodeView, committed_row, live_row}
 use Rattle.node_visits.specs.declared.visits.Visit.TheVariants.{Duplicate}
 use Rattle.node_visits.specs.Answers.{visit_answer}
 use Rattle.session.specs.Sessions.{SessionView}
@@ -46,8 +47,9 @@ seat_of (Sync number) world = None
 seat_of (Worker number worker) world = None
 seat_of (Local number local) world = local_seat local (slice_get world.replicas (number - 1))
 
--- the statement is an INSERT into a table, and a row is live at its key
-pub record InsertsAtLive (node : NodeView) (statement : Statement) (key : List Value) : Type 0 where
+-- an owner's statement is an INSERT into a table, and a row is live at its key: one that is committed, and that nobody has
+-- exclusively, or one of a key that the owner itself has exclusively
+pub record InsertsAtLive (node : NodeView) (owner : ℕ) (statement : Statement) (key : List Value) : Type 0 where
   pub table : ℕ
   pub row : List Value
   pub inserts : statement ≡ Insert table row
@@ -56,6 +58,7 @@ pub record InsertsAtLive (node : NodeView) (statement : Statement) (key : List V
   pub key_is : key ≡ key_of schema row
   pub there : List Value
   pub live : live_row node table key ≡ Some there
+  pub stands : ((exclusive_owner table key node.held ≡ None) × (committed_row node table key ≡ Some there)) ⊎ (exclusive_owner table key node.held ≡ Some owner)
 
 -- the session's next line has this number and runs an INSERT, at whose key a row is live, and the node answers so
 pub record MeetsKey (seat : Seat) (number : ℕ) : Type 0 where
@@ -65,7 +68,7 @@ pub record MeetsKey (seat : Seat) (number : ℕ) : Type 0 where
   pub statement : Statement
   pub runs : line.step ≡ Run statement
   pub key : List Value
-  pub at_live : InsertsAtLive seat.node statement key
+  pub at_live : InsertsAtLive seat.node seat.session.owner.0 statement key
   pub answer : visit_answer seat.session.owner.0 seat.node ≡ Duplicate key
 
 -- one of the items was a turn of this actor, a session, at which its line of this number was refused as a duplicate

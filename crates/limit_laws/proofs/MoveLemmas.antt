@@ -1,8 +1,7 @@
 -- The moves of a journal become no fewer, and behind the end of a run no more.
-use Rattle.std.proofs.Common.{◌≡◌, ℕ, zero, suc, ◌+◌, ◌≤◌, ◌<◌, Bool, true, false, cond, List, [], ◌∷◌, ◌++◌, ap, sym, subst, arith}
+use Rattle.std.proofs.Common.{◌≡◌, ℕ, zero, suc, ◌≤◌, ◌<◌, Bool, true, false, List, [], ◌∷◌, ◌++◌, ap, sym, subst, arith}
 use Rattle.workload.specs.declared.schedule.Item.{Item}
 use Rattle.trace_text.specs.declared.lines.JournalLine.{JournalLine}
-use Rattle.turn_notes.specs.Notes.{has_moved}
 use Rattle.world_model.specs.Worlds.{WorldView}
 use Rattle.world_model.specs.Turns.{move, is_written, line_of, written_if, stepped, played}
 use Rattle.world_model.specs.Rounds.{order, round, rounds, moves_in, IsBehindSchedule, IsStill, behind_schedule, EndsIn, Exceeds}
