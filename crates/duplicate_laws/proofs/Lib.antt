@@ -5,3 +5,4 @@ pub mod OtherLemmas
 pub mod HereLemmas
 pub mod WorldLemmas
 pub mod RunLemmas
+pub mod ScriptLemmas

@@ -3,4 +3,4 @@
 
 mod laws;
 
-pub use laws::each_duplicate_was_there;
+pub use laws::{each_duplicate_is_an_insert, each_duplicate_was_there};
