@@ -1,0 +1,4 @@
+mod OrderLemmas
+mod TableLemmas
+mod UnfinishedLemmas
+mod ScriptLemmas
