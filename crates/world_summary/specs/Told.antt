@@ -16,7 +16,7 @@ use Rattle.world_model.specs.Ends.{why_of, unfinished_line}
 use Rattle.world_model.specs.Summary.{replayed_of, verdicts_from, equals_from, final_rows, duplicates_from, local_duplicates_from, abandoned_from, local_abandoned_from, covers_all, status_from}
 use Rattle.world_summary.specs.declared.findings.FinalRows.{FinalRows}
 use Rattle.world_summary.specs.declared.findings.Findings.{Findings}
-use Rattle.world_summary.specs.declared.node_parts.NodeParts.{NodeParts}
+use Rattle.world_summary.specs.declared.node_ends.NodeParts.{NodeParts}
 
 -- the numbers of its tables and its local sessions fit in 32 bits
 pub record IsSmall (replica : ReplicaView) : Type 0 where

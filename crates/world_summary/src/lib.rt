@@ -3,7 +3,7 @@
 
 mod covers;
 mod findings;
-mod node_parts;
+mod node_ends;
 mod scripts;
 mod statuses;
 mod summaries;

@@ -6,7 +6,7 @@ ghost use Rattle.world_model.specs.Rounds.{IsBehindSchedule, IsStill};
 ghost use Rattle.world_summary.specs.Told.{IsSmall, told as all_told};
 
 use crate::findings::find_all;
-use crate::node_parts::node_parts;
+use crate::node_ends::parts_of_nodes;
 use crate::statuses::status;
 use crate::unfinished::unfinished;
 use row_types::R;
@@ -34,7 +34,7 @@ fn told(alloc: Global, parts: WorldParts, unfinished: UnfinishedLines) -> R<RunS
         unfinished.as_slice(),
         found.covered,
     );
-    let nodes = node_parts(alloc, parts.source, parts.replicas)?;
+    let nodes = parts_of_nodes(alloc, parts.source, parts.replicas)?;
     Ok(RunSummary {
         schemas: nodes.schemas,
         start: nodes.start,

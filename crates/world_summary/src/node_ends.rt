@@ -48,7 +48,7 @@ fn add_replicas(parts: &mut NodeParts, mut replicas: Vec<Replica>) -> R<()>
 }
 
 /// The parts of all nodes.
-pub fn node_parts(alloc: Global, source: Node, replicas: Vec<Replica>) -> R<NodeParts>
+pub fn parts_of_nodes(alloc: Global, source: Node, replicas: Vec<Replica>) -> R<NodeParts>
     ensures { IfOk result (λ parts. parts ≡ with_replicas replicas.items (source_parts source)) }
 {
     let mut parts = of_source(alloc, source)?;
